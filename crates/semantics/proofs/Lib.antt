@@ -1,0 +1,5 @@
+pub mod Lowered
+pub mod Nodes
+pub mod Limits
+pub mod Steps
+pub mod Waves

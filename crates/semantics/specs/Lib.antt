@@ -1,0 +1,11 @@
+pub mod Ground
+pub mod Grid
+pub mod Part
+pub mod Deck
+pub mod Source
+pub mod Device
+pub mod Run
+pub mod Wave
+pub mod Event
+pub mod Valid
+pub mod Text
