@@ -1,0 +1,5 @@
+pub mod Digits
+pub mod Rounding
+pub mod Significant
+pub mod Judged
+pub mod Written
