@@ -1,0 +1,18 @@
+use Rattle.std.proofs.Common.{◌∙◌, ap, refl, [], map, fold}
+use Rattle.std.specs.List.{flat_map}
+use Rattle.semantics.specs.Deck.{nodes, ends_of, with_node}
+use Rattle.semantics.specs.Valid.{differ}
+use Rattle.deck_cards.specs.Facts.{known}
+use Rattle.deck_cards.proofs.Differ.{differ-nodes}
+use Rattle.deck_cards.proofs.nodes.NodeTable.of.Goals as goal
+
+pub facts_of-requires-clause-differ : goal.facts_of-requires-clause-differ
+facts_of-requires-clause-differ c = ap differ c.in_ok-names.ensures ∙ differ-nodes (flat_map ends_of c.deref.result.now) [] refl
+
+pub returns : goal.returns
+unfolding nodes
+returns c =
+    let d = c.args.parts.now in
+    let es = c.deref.ensures.value ∙ ap (λ p. p.elements) c.parts.view_is in
+    let names = c.in_ok-names.ensures ∙ ap (λ l. fold with_node [] (flat_map ends_of l)) es in
+    record { names = names; facts = c.in_ok-facts.ensures ∙ ap (map (known d.elements d.initial)) names }
