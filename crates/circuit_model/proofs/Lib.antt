@@ -1,0 +1,5 @@
+pub mod Bridge
+pub mod Cells
+pub mod Entries
+pub mod Products
+pub mod State

@@ -1,0 +1,17 @@
+//! The plain run of a circuit, tick by tick: it is what every faster run is compared with.
+#![tactic(auto)]
+
+mod device;
+mod events;
+mod network;
+mod start;
+mod ticks;
+mod waves;
+
+pub use events::Events;
+pub use semantics::{Event, Line};
+pub use ticks::{Ran, tick_run};
+pub use waves::Waves;
+
+#[cfg(test)]
+mod tests;
