@@ -1,4 +1,4 @@
--- What decks are so far.
+-- Plain decks.
 use Rattle.std.specs.Prelude.{◌≡◌, ℕ, ◌<◌, Bool, true, ℤ, List, [], length, Some, slice_index_or}
 use Rattle.semantics.specs.Deck.{DeckValue, nodes, driver}
 use Rattle.semantics.specs.Valid.{is_valid}
@@ -7,7 +7,7 @@ use Rattle.semantics.specs.Valid.{is_valid}
 abbrev pub HasOnePoint : DeckValue → List ℕ → Type 0
 HasOnePoint d n = (s : List (ℕ × ℤ) × Bool) → driver d n ≡ Some s → length s.0 ≡ 1
 
--- what decks are so far: valid, without parts, and with sources of one point
+-- a plain deck is valid, has no models and tables, and its sources have one point
 pub record IsPlain (d : DeckValue) : Type 0 where
   pub valid : is_valid d ≡ true
   pub parts : d.parts ≡ []

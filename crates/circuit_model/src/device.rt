@@ -31,7 +31,7 @@ pub struct Device {
 const NO_VOLTS: Fraction = Fraction { num: 0, den: 1 };
 
 /// The voltage of an end, where those of the nodes are these.
-pub fn voltage(volts: &[Fraction], end: End) -> Fraction
+pub(crate) fn voltage(volts: &[Fraction], end: End) -> Fraction
     requires { IsTrue (is_inside (length volts.now) end) }
     ensures { result ≡ volts_at volts.now end }
 {
@@ -52,7 +52,7 @@ fn cross(a: &Fraction, b: &Fraction) -> i128
 }
 
 /// The cell of the difference of two voltages.
-pub fn cell_between(grid: &Grid, a: &Fraction, b: &Fraction) -> u32
+pub(crate) fn cell_between(grid: &Grid, a: &Fraction, b: &Fraction) -> u32
     requires a { IsSmall a.now }
     requires b { IsSmall b.now }
     ensures { result ≡ cell grid.now (difference a.now b.now) }

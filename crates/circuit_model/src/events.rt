@@ -22,7 +22,7 @@ impl Model for Events {
 
 impl Events {
     /// No events.
-    pub fn new(alloc: Global) -> Events
+    pub(crate) fn new(alloc: Global) -> Events
         ensures { result ≡ [] }
     {
         Events {
@@ -38,7 +38,7 @@ impl Events {
     }
 
     /// Puts last that the device at this place comes from its old cells into its new ones, where they differ.
-    pub fn note(
+    pub(crate) fn note(
         &mut self,
         tick: u64,
         place: u32,

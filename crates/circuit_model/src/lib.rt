@@ -10,7 +10,7 @@ mod waves;
 
 pub use events::Events;
 pub use semantics::{Event, Line};
-pub use ticks::{Ran, tick_run};
+pub use ticks::{TickRun, tick_run};
 pub use waves::Waves;
 
 #[cfg(test)]

@@ -41,7 +41,7 @@ impl Model for Network {
 
 impl Network {
     /// The devices of a deck.
-    pub fn of(alloc: Global, deck: &Deck) -> Result<Network, AllocError>
+    pub(crate) fn of(alloc: Global, deck: &Deck) -> Result<Network, AllocError>
         ensures network { IfOk result (λ network. network ≡ circuitry_of deck.now) }
         ensures valid { OnOk result (is_valid deck.now ≡ true) }
         ensures parts { OnOk result (deck.now.parts ≡ []) }
@@ -62,7 +62,7 @@ impl Network {
     }
 
     /// The cell of each device at these voltages.
-    pub fn cells(&self, alloc: Global, volts: &[Fraction]) -> Result<Vec<u32>, AllocError>
+    pub(crate) fn cells(&self, alloc: Global, volts: &[Fraction]) -> Result<Vec<u32>, AllocError>
         requires count { length volts.now ≡ self.now.count }
         requires small { All IsSmall volts.now }
         ensures { IfOk result (λ cells. cells.items ≡ map (device_cell self.now.grain volts.now) self.now.devices) }
@@ -75,7 +75,7 @@ impl Network {
     }
 
     /// Finds the cell of each device at a tick, and notes each that is in another cell than before.
-    pub fn enter_cells(
+    pub(crate) fn enter_cells(
         &self,
         tick: u64,
         volts: &[Fraction],
@@ -97,7 +97,7 @@ impl Network {
     }
 
     /// What flows into each free node over the devices in these cells, in picoamperes.
-    pub fn currents(&self, cells: &[u32], rates: &mut [i128])
+    pub(crate) fn currents(&self, cells: &[u32], rates: &mut [i128])
         requires cells { length cells.now ≡ length self.now.devices }
         requires exist { All (λ c. c ≤ 8192) cells.now }
         requires count { length rates.old ≡ self.now.count }

@@ -29,7 +29,7 @@ fn charged(capacity: u64, volts: i64) -> Fraction
     }
 }
 
-/// The voltage of a node at tick 0. So far each source has one point.
+/// The voltage of a node at tick 0. Each source has one point.
 fn start_volts_of(deck: &Deck, node: usize) -> Fraction
     requires { node < length (nodes deck.now) }
     ensures volts { result ≡ run deck.now 0 (slice_index_or (nodes deck.now) node []) }
@@ -45,7 +45,7 @@ fn start_volts_of(deck: &Deck, node: usize) -> Fraction
 }
 
 /// The voltage of each node at tick 0.
-pub fn start_volts(alloc: Global, deck: &Deck) -> Result<Vec<Fraction>, AllocError>
+pub(crate) fn start_volts(alloc: Global, deck: &Deck) -> Result<Vec<Fraction>, AllocError>
     ensures volts { IfOk result (λ volts. volts.items ≡ map (run deck.now 0) (nodes deck.now)) }
     ensures sources { OnOk result ((i : ℕ) → i < length (nodes deck.now) → HasOnePoint deck.now (slice_index_or (nodes deck.now) i [])) }
 {

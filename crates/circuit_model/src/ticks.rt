@@ -108,22 +108,22 @@ impl Ticks {
 
 /// What a run gives: the wave of each node, in the order of the nodes, and the events.
 #[derive(Drop)]
-pub struct Ran {
+pub struct TickRun {
     pub waves: Waves,
     pub events: Events,
 }
 
 /// Runs a deck tick by tick. Each line of its waves has a denominator of at least 1. It fails only for want of memory.
-pub fn tick_run(alloc: Global, deck: &Deck) -> Result<Ran, AllocError>
+pub fn tick_run(alloc: Global, deck: &Deck) -> Result<TickRun, AllocError>
     ensures waves { IfOk result (λ ran. ran.waves ≡ map (wave deck.now) (nodes deck.now)) }
     ensures events { IfOk result (λ ran. ran.events ≡ events deck.now) }
-    ensures dens { IfOk result (λ ran. All (λ lines. All (λ l. 1 ≤ l.den) lines) ran.waves) }
+    ensures denominators { IfOk result (λ ran. All (λ lines. All (λ l. 1 ≤ l.den) lines) ran.waves) }
 {
     let mut ticks = Ticks::start(alloc, deck)?;
     for tick in 0..deck.stop() {
         ticks.step(deck, tick)?;
     }
-    Ok(Ran {
+    Ok(TickRun {
         waves: ticks.waves,
         events: ticks.events,
     })

@@ -22,7 +22,7 @@ impl Model for NodeWave {
 
 impl NodeWave {
     /// No lines.
-    pub fn new(alloc: Global) -> NodeWave
+    pub(crate) fn new(alloc: Global) -> NodeWave
         ensures { result ≡ [] }
     {
         NodeWave {
@@ -31,7 +31,7 @@ impl NodeWave {
     }
 
     /// Its lines.
-    pub fn lines(&self) -> &[Line]
+    pub(crate) fn lines(&self) -> &[Line]
         ensures { result.now ≡ self.now }
     {
         self.lines.as_slice()
@@ -39,7 +39,7 @@ impl NodeWave {
 
     /// Takes in the line of a tick, which begins a line where the last one does not go on.
     #[tactic(auto, unfolding(crate::specs::Lines::continued))]
-    pub fn add(&mut self, line: Line) -> Result<(), AllocError>
+    pub(crate) fn add(&mut self, line: Line) -> Result<(), AllocError>
         ensures { OnOk result (self.new ≡ continued self.old line) }
     {
         match self.lines.last() {
@@ -69,7 +69,7 @@ impl Model for Waves {
 
 impl Waves {
     /// This many waves without lines.
-    pub fn empty(alloc: Global, count: usize) -> Result<Waves, AllocError>
+    pub(crate) fn empty(alloc: Global, count: usize) -> Result<Waves, AllocError>
         ensures { IfOk result (λ waves. waves ≡ replicate count []) }
     {
         let mut waves = Vec::with_capacity(alloc, count)?;
@@ -95,7 +95,7 @@ impl Waves {
     }
 
     /// Takes the line of a tick into the wave at this place.
-    pub fn add(&mut self, i: usize, line: Line) -> Result<(), AllocError>
+    pub(crate) fn add(&mut self, i: usize, line: Line) -> Result<(), AllocError>
         requires { i < length self.old }
         ensures { OnOk result (self.new ≡ slice_set self.old i (continued (slice_index_or self.old i []) line)) }
     {

@@ -75,7 +75,9 @@ fn answer_deck<K: Sink>(alloc: Global, bytes: &[u8], sink: &mut K) -> Status
 /// each node.
 ///
 /// The words are those after the program's name. They fit where there is exactly one and it does
-/// not begin with `-`, or is `-` alone.
+/// not begin with `-`, or is `-` alone; else the answer is `Words`. It is `Deck` where the deck has
+/// more than 16,777,216 bytes, is not in the form that is read so far, or is not valid. With `Ok`,
+/// `Words` and `Deck` the whole text is written, and with `Read` nothing.
 pub fn run_alone<S: Shelf, K: Sink>(
     alloc: Global,
     words: &[String],

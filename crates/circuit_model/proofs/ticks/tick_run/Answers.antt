@@ -32,5 +32,5 @@ returns c =
     record {
       waves = whole_waves d c.loop-tick.tick c.loop-tick.ticks.waves end c.loop-tick.invariant.waves;
       events = whole_events d c.loop-tick.tick c.loop-tick.ticks.events end c.loop-tick.invariant.events;
-      dens = whole_dens d c.loop-tick.ticks.waves (limits d c.stop-tick-end.ensures.valid) (whole_waves d c.loop-tick.tick c.loop-tick.ticks.waves end c.loop-tick.invariant.waves);
+      denominators = whole_dens d c.loop-tick.ticks.waves (limits d c.stop-tick-end.ensures.valid) (whole_waves d c.loop-tick.tick c.loop-tick.ticks.waves end c.loop-tick.invariant.waves);
     }
