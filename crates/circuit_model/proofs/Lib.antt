@@ -1,5 +1,10 @@
-pub mod Bridge
-pub mod Cells
+pub mod Devices
 pub mod Entries
+pub mod Flows
+pub mod Growing
+pub mod Leads
+pub mod Networks
+pub mod Places
 pub mod Products
-pub mod State
+pub mod Sources
+pub mod Totals

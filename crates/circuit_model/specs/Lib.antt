@@ -1,5 +1,7 @@
+pub mod Ends
 pub mod Lines
-pub mod Wiring
+pub mod Network
+pub mod Points
 pub mod Small
 pub mod State
-pub mod Level
+pub mod Wiring

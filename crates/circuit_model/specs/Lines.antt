@@ -1,15 +1,19 @@
 -- How a wave grows by the line of one tick.
-use Rattle.std.specs.Prelude.{ℕ, ℤ, pos, ◌+ℤ◌, slice_index_or, ◌-◌, List, [], ◌∷◌, ◌++◌, length, Some, None, if◌then◌else◌, slice_get}
+use Rattle.std.specs.Prelude.{ℕ, ℤ, pos, ◌+ℤ◌, slice_index_or, ◌-◌, List, [], ◌∷◌, ◌++◌, length, Option, Some, None, if◌then◌else◌, slice_get}
 use Rattle.semantics.specs.declared.line.Line.{Line}
 use Rattle.semantics.specs.declared.fraction.Fraction.{Fraction}
 use Rattle.semantics.specs.Wave.{goes_on}
-use Rattle.circuit_model.specs.Wiring.{no_volts}
+use Rattle.circuit_model.specs.Ends.{no_volts}
+
+-- the line in force at the end of a wave
+abbrev pub last : List Line → Option Line
+last lines = slice_get lines (length lines - 1)
 
 -- the wave so far with this line, which begins where the last one does not go on
 unfoldable pub continued : List Line → Line → List Line
-continued lines l = elim (slice_get lines (length lines - 1)) [
+continued lines l = elim (last lines) [
   | None ↦ lines ++ l ∷ []
-  | Some last ↦ if goes_on last l then lines else lines ++ l ∷ []
+  | Some in_force ↦ if goes_on in_force l then lines else lines ++ l ∷ []
 ]
 
 -- the voltage of a node that gains this in a tick

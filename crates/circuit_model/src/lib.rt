@@ -2,15 +2,18 @@
 #![tactic(auto)]
 
 mod device;
+mod drive;
+mod end;
 mod events;
 mod network;
-mod start;
+mod source;
 mod ticks;
+mod volts;
 mod waves;
 
 pub use events::Events;
 pub use semantics::{Event, Line};
-pub use ticks::{TickRun, tick_run};
+pub use ticks::{Ran, tick_run};
 pub use waves::Waves;
 
 #[cfg(test)]

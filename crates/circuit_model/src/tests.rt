@@ -1,121 +1,186 @@
-use crate::{Event, Line, tick_run};
-use deck_cards::read_first;
+ghost use Rattle.std.specs.Prelude.{◌≤◌, length, IfOk};
+
+mod cases;
+
+use crate::{Event, Line, Waves, tick_run};
+use cases::{Card, Case, Entry};
+use deck_cards::{Deck, DeckParts, Element, Name, Part, Title, Wave};
+use device_tables::{Grid, Table};
+use std::alloc::{AllocError, Global};
 use std::test::Fail;
 
-const ROW: &[u8] =
-    b"rc\nV1 a 0 1\nR1 a b 1k\nC1 b 0 1p\n.IC V(b)=0\n.OPTIONS GRAIN=100m\n.TRAN 1p 1n\n.END\n";
-
-const STOPPED: &[u8] =
-    b"at once\nV1 a 0 1\nR1 a b 1k\nC1 b 0 1p\n.IC V(b)=0\n.OPTIONS GRAIN=100m\n.TRAN 1p 0\n.END\n";
-
-const EXCHANGED: &[u8] =
-    b"ends\nV1 0 a 1\nR1 b a 1k\nC1 0 b 3p\n.IC V(b)=0\n.OPTIONS GRAIN=100m\n.TRAN 1p 2n\n.END\n";
-
-const BOTH_WAYS: &[u8] =
-    b"7\nV1 a 0 100u\nR1 a b 7\nC1 b 0 100f\n.IC V(b)=20u\n.OPTIONS GRAIN=6u\n.TRAN 1p 20p\n.END\n";
-
-fn line(start: u64, num: i128, rate: i128, den: u64) -> Line {
-    Line {
-        start,
-        num,
-        rate,
-        den,
+/// The name of a text.
+fn name(alloc: Global, text: &str) -> Result<Name, AllocError> {
+    if text.is_ascii() {
+        Name::of(alloc, text.as_bytes())
+    } else {
+        Name::of(alloc, b"not_ascii")
     }
 }
 
-/// The resistor, at place 1 of each deck, comes from one cell into another.
-fn event(tick: u64, old: u32, new: u32) -> Event {
-    Event {
-        tick,
-        place: 1,
-        old: (old, 0),
-        new: (new, 0),
+fn source(
+    alloc: Global,
+    label: &str,
+    plus: &str,
+    minus: &str,
+    points: &[(u64, i64)],
+) -> Result<Element, Fail> {
+    Ok(Element::Source {
+        name: name(alloc, label)?,
+        plus: name(alloc, plus)?,
+        minus: name(alloc, minus)?,
+        wave: Wave::pwl(points.to_vec(alloc)?)?,
+    })
+}
+
+fn mos(alloc: Global, label: &str, ends: [&str; 4], part: &str) -> Result<Element, AllocError> {
+    let [drain, gate, source, bulk] = ends;
+    Ok(Element::Mos {
+        name: name(alloc, label)?,
+        drain: name(alloc, drain)?,
+        gate: name(alloc, gate)?,
+        source: name(alloc, source)?,
+        bulk: name(alloc, bulk)?,
+        part: name(alloc, part)?,
+        length: 1,
+        width: 1,
+    })
+}
+
+fn resistor(
+    alloc: Global,
+    label: &str,
+    first: &str,
+    second: &str,
+    ohms: i64,
+) -> Result<Element, AllocError> {
+    Ok(Element::Resistor {
+        name: name(alloc, label)?,
+        first: name(alloc, first)?,
+        second: name(alloc, second)?,
+        ohms,
+    })
+}
+
+fn capacitor(
+    alloc: Global,
+    label: &str,
+    plus: &str,
+    minus: &str,
+    farads: i64,
+) -> Result<Element, AllocError> {
+    Ok(Element::Capacitor {
+        name: name(alloc, label)?,
+        plus: name(alloc, plus)?,
+        minus: name(alloc, minus)?,
+        farads,
+    })
+}
+
+fn element(alloc: Global, card: &Card) -> Result<Element, Fail> {
+    match card {
+        Card::Resistor(label, first, second, ohms) => {
+            Ok(resistor(alloc, label, first, second, *ohms)?)
+        }
+        Card::Capacitor(label, plus, minus, farads) => {
+            Ok(capacitor(alloc, label, plus, minus, *farads)?)
+        }
+        Card::Source(label, plus, minus, points) => source(alloc, label, plus, minus, points),
+        Card::Mos(label, drain, gate, source, bulk, part) => {
+            Ok(mos(alloc, label, [drain, gate, source, bulk], part)?)
+        }
     }
 }
 
-/// The waves of `a`, which the source drives, and of `b`, and the events. `BOTH_WAYS` is worked out by hand: at tick 1
-/// the node `b` is at 13142857 / 100000 µV, so 31.43 µV above `a`, in cell 4096 - 5, whose current of -30/7 µA is cut
-/// to -4285714 pA. The others come from a program that sums the charges and counts the thresholds one by one.
+/// These numbers, of which there are at most 1,000.
+fn few(alloc: Global, numbers: &[i64]) -> Result<Vec<i64>, AllocError>
+    ensures { IfOk result (λ v. length v.items ≤ 1000) }
+{
+    let few = if numbers.len() <= 1_000 { numbers } else { &[] };
+    few.to_vec(alloc)
+}
+
+/// The table of these thresholds and currents.
+fn table(alloc: Global, gate: &[i64], drain: &[i64], amps: &[i64]) -> Result<Table, Fail> {
+    let gate = Grid::of_list(few(alloc, gate)?)?;
+    let drain = Grid::of_list(few(alloc, drain)?)?;
+    Ok(Table::explicit(gate, drain, few(alloc, amps)?)?)
+}
+
+/// The deck of a case.
+fn deck(alloc: Global, case: &Case) -> Result<Deck, Fail> {
+    let mut parts = Vec::new(alloc);
+    for (label, gate, drain, amps) in case.tables {
+        parts.push((
+            name(alloc, label)?,
+            Part::Listed(table(alloc, gate, drain, amps)?),
+        ))?;
+    }
+    let mut initial = Vec::new(alloc);
+    for (label, volts) in case.initial {
+        initial.push((name(alloc, label)?, *volts))?;
+    }
+    let mut elements = Vec::new(alloc);
+    for card in case.cards {
+        elements.push(element(alloc, card)?)?;
+    }
+    Ok(Deck::of(
+        alloc,
+        DeckParts {
+            title: Title::of(Vec::new(alloc)),
+            stop: case.stop,
+            uic: case.uic,
+            grain: case.grain,
+            parts,
+            initial,
+            elements,
+        },
+    )?)
+}
+
+fn is_entry(line: &Line, entry: &Entry) -> bool {
+    (line.start, line.num, line.rate, line.den) == *entry
+}
+
+fn is_wave(lines: &[Line], entries: &[Entry]) -> bool {
+    lines.len() == entries.len()
+        && lines
+            .iter()
+            .zip(entries)
+            .all(|(line, entry)| is_entry(line, entry))
+}
+
+fn are_events(events: &[Event], want: &[(u64, u32, (u32, u32), (u32, u32))]) -> bool {
+    events.len() == want.len()
+        && events.iter().zip(want).all(|(event, want)| (
+            event.tick,
+            event.place,
+            event.old,
+            event.new,
+        ) == *want)
+}
+
+/// Whether the run of the case's deck gives its waves.
+fn gives_waves(waves: &Waves, case: &Case) -> bool {
+    waves.len() == case.waves.len()
+        && case.waves.iter().enumerate().all(|(node, wave)| node < waves.len()
+            && is_wave(waves.wave(node), wave))
+}
+
+/// Whether the run of the case's deck gives its waves and its events.
+fn gives(alloc: Global, case: &Case) -> Result<(bool, bool), Fail> {
+    let deck = deck(alloc, case)?;
+    let ran = tick_run(alloc, &deck)?;
+    Ok((
+        gives_waves(&ran.waves, case),
+        are_events(ran.events.all(), case.events),
+    ))
+}
+
 #[test]
 fn runs(rt: HostRuntime) -> Result<(), Fail> {
-    let pico = 1_000_000;
-    for (deck, a, b, events) in [
-        (
-            ROW,
-            line(0, 1_000_000, 0, 1),
-            [
-                line(0, 0, 1_000_000_000, pico),
-                line(51, 51_000_000_000, 900_000_000, pico),
-                line(162, 150_900_000_000, 800_000_000, pico),
-                line(286, 250_100_000_000, 700_000_000, pico),
-                line(429, 350_200_000_000, 600_000_000, pico),
-                line(596, 450_400_000_000, 500_000_000, pico),
-                line(796, 550_400_000_000, 400_000_000, pico),
-            ]
-            .as_slice(),
-            [
-                event(51, 4106, 4105),
-                event(162, 4105, 4104),
-                event(286, 4104, 4103),
-                event(429, 4103, 4102),
-                event(596, 4102, 4101),
-                event(796, 4101, 4100),
-            ]
-            .as_slice(),
-        ),
-        (
-            STOPPED,
-            line(0, 1_000_000, 0, 1),
-            [line(0, 0, 1_000_000_000, pico)].as_slice(),
-            [].as_slice(),
-        ),
-        (
-            EXCHANGED,
-            line(0, -1_000_000, 0, 1),
-            [
-                line(0, 0, -1_000_000_000, 3 * pico),
-                line(151, -151_000_000_000, -900_000_000, 3 * pico),
-                line(484, -450_700_000_000, -800_000_000, 3 * pico),
-                line(859, -750_700_000_000, -700_000_000, 3 * pico),
-                line(1287, -1_050_300_000_000, -600_000_000, 3 * pico),
-                line(1787, -1_350_300_000_000, -500_000_000, 3 * pico),
-            ]
-            .as_slice(),
-            [
-                event(151, 4106, 4105),
-                event(484, 4105, 4104),
-                event(859, 4104, 4103),
-                event(1287, 4103, 4102),
-                event(1787, 4102, 4101),
-            ]
-            .as_slice(),
-        ),
-        (
-            BOTH_WAYS,
-            line(0, 100, 0, 1),
-            [
-                line(0, 2_000_000, 11_142_857, 100_000),
-                line(1, 13_142_857, -4_285_714, 100_000),
-                line(2, 8_857_143, 1_714_285, 100_000),
-                line(3, 10_571_428, -857_142, 100_000),
-                line(4, 9_714_286, 0, 100_000),
-            ]
-            .as_slice(),
-            [
-                event(1, 4109, 4091),
-                event(2, 4091, 4098),
-                event(3, 4098, 4095),
-                event(4, 4095, 4096),
-            ]
-            .as_slice(),
-        ),
-    ] {
-        let deck = read_first(rt.alloc(), deck)?;
-        let ran = tick_run(rt.alloc(), &deck)?;
-        assert_eq!(rt; ran.waves.len(), 2);
-        assert_eq!(rt; ran.waves.wave(0), [a].as_slice());
-        assert_eq!(rt; ran.waves.wave(1), b);
-        assert_eq!(rt; ran.events.all(), events);
+    for (k, case) in cases::ALL.iter().enumerate() {
+        assert_eq!(rt; gives(rt.alloc(), case)?, (true, true), "case {k}");
     }
     Ok(())
 }

@@ -1,30 +1,16 @@
-ghost use Rattle.std.specs.Prelude.{◌≡◌, ◌≤◌, ◌<◌, ◌+◌, ◌^◌, ℕ, pos, unsigned_abs, [], length, map, slice_index_or, IfOk, OnOk, All};
+ghost use Rattle.std.specs.Prelude.{◌≡◌, ◌≤◌, ◌<◌, ◌+◌, ℕ, [], length, map, slice_index_or, IfOk, OnOk, All};
 ghost use Rattle.semantics.specs.Deck.{nodes};
 ghost use Rattle.semantics.specs.Event.{events};
 ghost use Rattle.semantics.specs.Wave.{wave};
-ghost use Rattle.circuit_model.specs.Lines.{continued, line_of, moved};
-ghost use Rattle.circuit_model.specs.Small.{IsSmall};
-ghost use Rattle.circuit_model.specs.Wiring.{no_volts};
+ghost use Rattle.circuit_model.specs.Lines.{continued, line_of};
 
 use crate::events::Events;
 use crate::network::Network;
-use crate::start::start_volts;
+use crate::volts::{advance, first_volts};
 use crate::waves::Waves;
 use deck_cards::Deck;
 use semantics::{Fraction, Line};
 use std::alloc::{AllocError, Global};
-
-/// Moves each voltage on by a tick.
-fn advance(volts: &mut [Fraction], rates: &[i128])
-    requires count { length rates.now ≡ length volts.old }
-    requires volts { All IsSmall volts.old }
-    requires rates { (i : ℕ) → unsigned_abs (slice_index_or rates.now i (pos 0)) ≤ 10 ^ 15 }
-    ensures { (i : ℕ) → i < length volts.old → slice_index_or volts.new i no_volts ≡ moved (slice_index_or volts.old i no_volts) (slice_index_or rates.now i (pos 0)) }
-{
-    for node in 0..volts.len() {
-        volts[node].num += rates[node];
-    }
-}
 
 /// Takes the line of each node at a tick into its wave.
 fn add_lines(
@@ -54,11 +40,10 @@ fn add_lines(
 /// The plain run of a deck at a tick.
 #[derive(Drop)]
 struct Ticks {
-    network: Network,
     /// The voltage of each node.
     volts: Vec<Fraction>,
-    /// The cell of each device.
-    cells: Vec<u32>,
+    /// The cells of each device.
+    cells: Vec<(u32, u32)>,
     /// What the numerator of each node's voltage gains from this tick to the next.
     rates: Vec<i128>,
     waves: Waves,
@@ -69,18 +54,16 @@ impl Ticks {
     ghost use Rattle.circuit_model.specs.State.{IsAt};
 
     /// The run at tick 0.
-    fn start(alloc: Global, deck: &Deck) -> Result<Ticks, AllocError>
-        ensures { IfOk result (λ ticks. IsAt deck.now 0 ticks) }
+    fn start(alloc: Global, network: &Network) -> Result<Ticks, AllocError>
+        ensures { IfOk result (λ ticks. IsAt network.now 0 ticks) }
     {
-        let network = Network::of(alloc, deck)?;
-        let volts = start_volts(alloc, deck)?;
-        let cells = network.cells(alloc, &volts)?;
+        let volts = first_volts(alloc, network.deck())?;
+        let cells = network.first_cells(alloc, &volts)?;
         let mut rates = vec![in alloc; 0; volts.len()]?;
-        network.currents(&cells, &mut rates);
+        network.find_rates(0, &cells, &mut rates);
         let mut waves = Waves::empty(alloc, volts.len())?;
         add_lines(&mut waves, 0, &volts, &rates)?;
         Ok(Ticks {
-            network,
             volts,
             cells,
             rates,
@@ -90,17 +73,17 @@ impl Ticks {
     }
 
     /// Goes on from this tick to the next.
-    fn step(&mut self, deck: &Deck, tick: u64) -> Result<(), AllocError>
-        requires before { tick < deck.now.stop }
-        requires at { IsAt deck.now tick self.old }
-        ensures { OnOk result (IsAt deck.now (tick + 1) self.new) }
+    fn step(&mut self, network: &Network, tick: u64) -> Result<(), AllocError>
+        requires before { tick < network.now.stop }
+        requires at { IsAt network.now tick self.old }
+        ensures { OnOk result (IsAt network.now (tick + 1) self.new) }
     {
-        advance(&mut self.volts, &self.rates);
-        self.network
-            .enter_cells(tick + 1, &self.volts, &mut self.cells, &mut self.events)?;
-        self.network.currents(&self.cells, &mut self.rates);
-        if tick + 1 < deck.stop() {
-            add_lines(&mut self.waves, tick + 1, &self.volts, &self.rates)?;
+        advance(network.deck(), tick, &mut self.volts, &self.rates);
+        network.enter_cells(tick, &self.volts, &mut self.cells, &mut self.events)?;
+        let next = tick + 1;
+        network.find_rates(next, &self.cells, &mut self.rates);
+        if next < network.deck().stop() {
+            add_lines(&mut self.waves, next, &self.volts, &self.rates)?;
         }
         Ok(())
     }
@@ -108,22 +91,23 @@ impl Ticks {
 
 /// What a run gives: the wave of each node, in the order of the nodes, and the events.
 #[derive(Drop)]
-pub struct TickRun {
+pub struct Ran {
     pub waves: Waves,
     pub events: Events,
 }
 
 /// Runs a deck tick by tick. Each line of its waves has a denominator of at least 1. It fails only for want of memory.
-pub fn tick_run(alloc: Global, deck: &Deck) -> Result<TickRun, AllocError>
+pub fn tick_run(alloc: Global, deck: &Deck) -> Result<Ran, AllocError>
     ensures waves { IfOk result (λ ran. ran.waves ≡ map (wave deck.now) (nodes deck.now)) }
     ensures events { IfOk result (λ ran. ran.events ≡ events deck.now) }
     ensures denominators { IfOk result (λ ran. All (λ lines. All (λ l. 1 ≤ l.den) lines) ran.waves) }
 {
-    let mut ticks = Ticks::start(alloc, deck)?;
+    let network = Network::of(alloc, deck)?;
+    let mut ticks = Ticks::start(alloc, &network)?;
     for tick in 0..deck.stop() {
-        ticks.step(deck, tick)?;
+        ticks.step(&network, tick)?;
     }
-    Ok(TickRun {
+    Ok(Ran {
         waves: ticks.waves,
         events: ticks.events,
     })

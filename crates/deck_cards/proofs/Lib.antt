@@ -1,5 +1,12 @@
+pub mod Added
+pub mod Counting
 pub mod Differ
+pub mod Firsts
+pub mod FreeNodes
 pub mod Known
 pub mod Meaning
 pub mod Named
+pub mod Once
 pub mod Reading
+pub mod Within
+pub mod Validity

@@ -1,20 +1,19 @@
 -- What is known of a node is what the definitions say of it.
-use Rattle.std.proofs.Common.{◌≡◌, ℕ, suc, ◌+◌, ◌^◌, ◌<◌, ◌≤◌, nat_le, Bool, true, false, not, ◌&&◌, ◌||◌, if◌then◌else◌, List, [], ◌∷◌, length, map, filter, fold, get_or, Option, Some, None, is_some, is_none, IfSome, int_lt, int_le, ℤ, pos, ◌+ℤ◌, unsigned_abs, slice_get, refl, sym, ◌∙◌, ap, subst, arith}
+use Rattle.std.proofs.Common.{◌≡◌, ℕ, suc, ◌+◌, ◌*◌, ◌^◌, ◌<◌, ◌≤◌, Bool, true, false, ◌||◌, if◌then◌else◌, List, [], ◌∷◌, length, fold, get_or, Option, Some, None, is_some, is_none, IfSome, ℤ, pos, negsuc, ◌+ℤ◌, unsigned_abs, slice_get, refl, sym, ◌∙◌, ap, subst, rules, arith}
 use Rattle.std.specs.Option.{option_map}
-use Rattle.std.specs.List.{list_all, flat_map}
+use Rattle.std.specs.List.{list_all}
 use Rattle.std.specs.Str.{bytes_eq}
-use Rattle.std.proofs.lemmas.List.Folds.{list_all-map}
-use Rattle.std.proofs.lemmas.Bool.{le-leb}
-use Rattle.std.proofs.lemmas.Bool.Decides.{nat_tests}
+use Rattle.std.proofs.lemmas.Bool.{false≢true}
+use Rattle.std.proofs.lemmas.Int.{ints}
 use Rattle.std.proofs.lemmas.Option.{slice_get-get_or, get_or_from_slice_get}
 use Rattle.semantics.specs.declared.element.Element.{Element}
 use Rattle.semantics.specs.declared.element.Element.TheVariants.{Resistor, Capacitor, Source, Mos}
-use Rattle.semantics.specs.Deck.{DeckValue, name_of, nodes, free_nodes, driver, drives, total_farads, farads_at, terminals, look_up, first_some, capacity}
-use Rattle.semantics.specs.Valid.{differ, driven_of, has_part, is_grounded, in_limits, is_held, has_nodes, has_elements, has_limits, is_valid}
+use Rattle.semantics.specs.Deck.{DeckValue, nodes, driver, drives, total_farads, farads_at, first_some, capacity}
+use Rattle.semantics.specs.Valid.{in_limits, some_farads, is_valid}
+use Rattle.semantics.proofs.Limits.{limits}
 use Rattle.deck_cards.specs.declared.facts.NodeFacts.{NodeFacts}
-use Rattle.deck_cards.specs.Facts.{place_of, source_of, farads_of, terminals_of, known, holds, IsTable}
+use Rattle.deck_cards.specs.Facts.{place_of, source_of, farads_of, known, IsTable}
 use Rattle.deck_cards.proofs.Named.{and_both, read_named}
-use Rattle.deck_cards.proofs.Known.{some_farads-abs}
 
 -- ---- drivers
 
@@ -51,6 +50,17 @@ pub driver_at : (d : DeckValue) (n : List ℕ) (e : Element) (place : ℕ) → s
 unfolding source_of driver
 driver_at d n e place h = first_at (drives n) d.elements e place h
 
+-- a driven node is known to be
+pub driver_known : (d : DeckValue) (n : List ℕ) → is_none (source_of n d.elements) ≡ is_none (driver d n)
+unfolding source_of driver
+driver_known d n = flip (place_of (λ e. is_some (drives n e)) d.elements) (first_some (drives n) d.elements) (is_driven (drives n) d.elements)
+  where
+    flip : {A B : Type 0} (a : Option A) (b : Option B) → is_some a ≡ is_some b → is_none a ≡ is_none b
+    flip None None h = refl
+    flip None (Some y) h = absurd (cc)
+    flip (Some x) None h = absurd (cc)
+    flip (Some x) (Some y) h = refl
+
 pub no_driver : (d : DeckValue) (n : List ℕ) → source_of n d.elements ≡ None → driver d n ≡ None
 unfolding source_of driver
 no_driver d n h = by (first_some (drives n) d.elements) (sym (is_driven (drives n) d.elements) ∙ ap is_some h)
@@ -61,93 +71,33 @@ no_driver d n h = by (first_some (drives n) d.elements) (sym (is_driven (drives 
 
 -- ---- capacitances
 
-total_is : (n : List ℕ) (es : List Element) (a : ℕ) → list_all in_limits es ≡ true
-    → fold (λ total e. total +ℤ farads_at n e) (pos a) es ≡ pos (fold (λ total e. total + unsigned_abs (farads_at n e)) a es)
-total_is n [] a all = refl
-total_is n (e ∷ es) a all =
+-- the sum of the capacitors at a node, each in its limit
+some_farads-abs : (x : ℤ) → some_farads x ≡ true → unsigned_abs x ≤ 10 ^ 12
+some_farads-abs (pos x) h = search (rules, arith)
+some_farads-abs (negsuc x) h = absurd (false≢true h)
+
+total_small : (n : List ℕ) (es : List Element) (a : ℤ) → list_all in_limits es ≡ true
+    → unsigned_abs (fold (λ total e. total +ℤ farads_at n e) a es) ≤ unsigned_abs a + 10 ^ 12 * length es
+total_small n [] a all = omega arith
+total_small n (e ∷ es) a all =
     let h = and_both (in_limits e) (list_all in_limits es) all in
-    ap (λ z. fold (λ total x. total +ℤ farads_at n x) (pos a +ℤ z) es) (whole n e h.0) ∙ total_is n es (a + unsigned_abs (farads_at n e)) h.1
+    omega (arith, ints, total_small n es (a +ℤ farads_at n e) h.1, one n e h.0)
   where
-    whole : (n : List ℕ) (e : Element) → in_limits e ≡ true → farads_at n e ≡ pos (unsigned_abs (farads_at n e))
-    whole n (Resistor name first second ohms) h = refl
-    whole n (Source name plus minus wave) h = refl
-    whole n (Mos name drain gate source bulk part len width) h = refl
-    whole n (Capacitor name plus minus farads) h = at (bytes_eq n plus || bytes_eq n minus)
+    one : (n : List ℕ) (e : Element) → in_limits e ≡ true → unsigned_abs (farads_at n e) ≤ 10 ^ 12
+    one n (Resistor name first second ohms) h = omega arith
+    one n (Source name plus minus wave) h = omega arith
+    one n (Mos name drain gate source bulk part len width) h = omega arith
+    one n (Capacitor name plus minus farads) h = at (bytes_eq n plus || bytes_eq n minus)
       where
-        at : (b : Bool) → (if b then farads else pos 0) ≡ pos (unsigned_abs (if b then farads else pos 0))
-        at true = (some_farads-abs farads h).1
-        at false = refl
+        at : (b : Bool) → unsigned_abs (if b then farads else pos 0) ≤ 10 ^ 12
+        at true = some_farads-abs farads h
+        at false = omega arith
 
-pub farads_are : (d : DeckValue) (n : List ℕ) → list_all in_limits d.elements ≡ true → total_farads d n ≡ pos (farads_of n d.elements)
-unfolding total_farads farads_of
-farads_are d n all = total_is n d.elements 0 all
-
--- ---- the whole deck
-
-elements_of : (a b g p l : Bool) → ((a && b) && (g && (p && l))) ≡ true → (g ≡ true) × (l ≡ true)
-elements_of true true true true true h = (refl, refl)
-elements_of true true true true false h = absurd (cc)
-elements_of true true true false l h = absurd (cc)
-elements_of true true false p l h = absurd (cc)
-elements_of true false g p l h = absurd (cc)
-elements_of false b g p l h = absurd (cc)
-
--- in a deck whose elements stand where they may
-pub grounded_and_limits : (d : DeckValue) → has_elements d ≡ true → (list_all is_grounded d.elements ≡ true) × (list_all in_limits d.elements ≡ true)
-grounded_and_limits d h = elements_of (differ (map name_of d.elements)) (differ (flat_map driven_of d.elements)) (list_all is_grounded d.elements) (list_all (has_part d) d.elements) (list_all in_limits d.elements) h
-
-valid_elements : (d : DeckValue) → is_valid d ≡ true → list_all in_limits d.elements ≡ true
-unfolding is_valid
-valid_elements d valid = (grounded_and_limits d (and_both (has_elements d) (has_nodes d) (and_both (has_limits d) (has_elements d && has_nodes d) valid).1).0).1
-
-list_all-filter : {A : Type 0} (p q : A → Bool) (xs : List A) → list_all p (filter q xs) ≡ list_all (λ x. not (q x) || p x) xs
-list_all-filter p q [] = refl
-list_all-filter p q (x ∷ xs) = by (q x) (list_all-filter p q xs)
-  where
-    by : (b : Bool) → list_all p (filter q xs) ≡ list_all (λ x. not (q x) || p x) xs
-        → list_all p (if b then x ∷ filter q xs else filter q xs) ≡ ((not b || p x) && list_all (λ x. not (q x) || p x) xs)
-    by true ih = λ i. p x && ih i
-    by false ih = ih
-
--- a node has what it needs where it is known to
-one_held : (d : DeckValue) (n : List ℕ) → list_all in_limits d.elements ≡ true
-    → (is_some (source_of n d.elements) || holds d.uic (known d.elements d.initial n)) ≡ (not (is_none (driver d n)) || is_held d n)
-unfolding source_of driver terminals terminals_of
-one_held d n all =
-    by (is_some (source_of n d.elements)) (driver d n) (is_driven (drives n) d.elements)
-    ∙ ap (λ z. not (is_none (driver d n)) || ((int_lt (pos 0) z && int_le z (pos (10 ^ 12))) && ((d.uic || is_some (look_up n d.initial)) && nat_le (terminals d n) 1000))) (sym (farads_are d n all))
-  where
-    by : (b : Bool) (o : Option (List (ℕ × ℤ) × Bool)) → b ≡ is_some o → (b || holds d.uic (known d.elements d.initial n)) ≡ (not (is_none o) || holds d.uic (known d.elements d.initial n))
-    by b None e = λ i. e i || holds d.uic (known d.elements d.initial n)
-    by b (Some x) e = λ i. e i || holds d.uic (known d.elements d.initial n)
-
-pub nodes_held : (d : DeckValue) (keys : List (List ℕ)) (row : List NodeFacts) → IsTable d keys row → list_all in_limits d.elements ≡ true
-    → list_all (λ f. is_some f.source || holds d.uic f) row ≡ list_all (is_held d) (free_nodes d)
-unfolding free_nodes
-nodes_held d keys row table all =
-    ap (list_all (λ f. is_some f.source || holds d.uic f)) table.facts
-    ∙ list_all-map (λ f. is_some f.source || holds d.uic f) (known d.elements d.initial) (nodes d)
-    ∙ (λ i. list_all (λ n. one_held d n all i) (nodes d))
-    ∙ sym (list_all-filter (is_held d) (λ n. is_none (driver d n)) (nodes d))
-
-pub has_nodes_is : (d : DeckValue) (keys : List (List ℕ)) (row : List NodeFacts) (held : Bool) → IsTable d keys row → list_all in_limits d.elements ≡ true → length d.elements ≤ 100000 → length keys ≤ 100000
-    → held ≡ list_all (λ f. is_some f.source || holds d.uic f) row → held ≡ has_nodes d
-has_nodes_is d keys row held table all few small is =
-    let a : nat_le (length d.elements) 100000 ≡ true = le-leb (length d.elements) 100000 few in
-    let b : nat_le (length (nodes d)) 100000 ≡ true = le-leb (length (nodes d)) 100000 (subst (λ ns. length ns ≤ 100000) table.names small) in
-    is ∙ nodes_held d keys row table all ∙ (λ i. (sym a i && sym b i) && list_all (is_held d) (free_nodes d))
-
-over : (n : ℕ) → 100000 < n → nat_le n 100000 ≡ false
-over n h = grind (arith, nat_tests)
-
-pub too_many_nodes : (d : DeckValue) (keys : List (List ℕ)) → keys ≡ nodes d → 100000 < length keys → false ≡ has_nodes d
-too_many_nodes d keys is many =
-    let b : nat_le (length (nodes d)) 100000 ≡ false = over (length (nodes d)) (subst (λ ns. 100000 < length ns) is many) in
-    by (nat_le (length d.elements) 100000) ∙ (λ i. (nat_le (length d.elements) 100000 && sym b i) && list_all (is_held d) (free_nodes d))
-  where
-    by : (a : Bool) → false ≡ ((a && false) && list_all (is_held d) (free_nodes d))
-    by true = refl
-    by false = refl
+pub capacity_small : (d : DeckValue) (n : List ℕ) → is_valid d ≡ true → capacity d n < 2 ^ 64
+unfolding total_farads
+capacity_small d n valid =
+    let l = limits d valid in
+    omega (arith, total_small n d.elements (pos 0) l.values, l.few_elements)
 
 -- ---- reading one node
 
@@ -163,8 +113,9 @@ at_node d keys row i f P table within at each =
     let there = slice_get-get_or (nodes d) i [] within in
     subst (λ o. IfSome o P) (sym there) (each (get_or (nodes d) i []) there (known_at d keys row i f table within at))
 
-pub capacity_is : (d : DeckValue) (n : List ℕ) (f : NodeFacts) → is_valid d ≡ true → f ≡ known d.elements d.initial n → f.farads ≡ capacity d n
-capacity_is d n f valid is = ap (λ x. x.farads) is ∙ sym (ap unsigned_abs (farads_are d n (valid_elements d valid)))
+pub capacity_is : (d : DeckValue) (n : List ℕ) (f : NodeFacts) → f ≡ known d.elements d.initial n → unsigned_abs f.farads ≡ capacity d n
+unfolding total_farads farads_of
+capacity_is d n f is = ap (λ x. unsigned_abs x.farads) is
 
 -- the element that drives a node, as the table finds it
 pub driver_found : (d : DeckValue) (n m : List ℕ) (place : ℕ) (e : Element) → source_of n d.elements ≡ Some place → slice_get d.elements place ≡ Some e

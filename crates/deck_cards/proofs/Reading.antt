@@ -8,7 +8,7 @@ use Rattle.semantics.specs.Valid.{is_valid, has_limits, has_elements, has_nodes,
 use Rattle.deck_cards.specs.declared.row.Row.{Row}
 use Rattle.deck_cards.specs.RowForm.{is_plain_byte, is_plain, row_deck}
 use Rattle.deck_cards.specs.RowValues.{IsNoDeck}
-use Rattle.deck_cards.proofs.Meaning.{grounded_and_limits}
+use Rattle.semantics.proofs.Limits.{limits}
 use Rattle.deck_cards.proofs.Named.{and_both}
 use Rattle.deck_cards.proofs.Known.{each_passes}
 
@@ -94,7 +94,7 @@ valid_fits title row valid =
     let times = and_both (short_time d.stop) (some_grain d.grain) l.0 in
     let grain = and_both _ (nat_le 2 row.grain && nat_le row.grain (10 ^ 6)) times.1 in
     let start = and_both (small_volts (pos row.initial.1)) true l.1 in
-    let e = (grounded_and_limits d (and_both (has_elements d) (has_nodes d) a.1).0).1 in
+    let e = (limits d valid).values in
     let s = and_both (small_volts (pos row.source.value) && true) (some_ohms (pos row.resistor.value) && (some_farads (pos row.capacitor.value) && true)) e in
     let r = and_both (some_ohms (pos row.resistor.value)) (some_farads (pos row.capacitor.value) && true) s.1 in
     let c = and_both (some_farads (pos row.capacitor.value)) true r.1 in

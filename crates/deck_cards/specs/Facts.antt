@@ -1,9 +1,10 @@
 -- What a deck keeps of each of its nodes, by the definitions.
-use Rattle.std.specs.Prelude.{◌≡◌, ℕ, ◌+◌, ◌^◌, ℤ, unsigned_abs, Bool, ◌&&◌, ◌||◌, nat_lt, nat_le, if◌then◌else◌, List, [], ◌∷◌, Option, Some, None, fold, map, is_some}
+use Rattle.std.specs.Prelude.{◌≡◌, ℕ, ◌+◌, ℤ, pos, ◌+ℤ◌, Bool, if◌then◌else◌, List, [], ◌∷◌, Option, Some, None, fold, map, is_some, IsTrue}
 use Rattle.std.specs.Option.{option_map}
 use Rattle.std.specs.Str.{bytes_eq}
 use Rattle.semantics.specs.declared.element.Element.{Element}
-use Rattle.semantics.specs.Deck.{DeckValue, nodes, drives, farads_at, terminals_at, look_up}
+use Rattle.semantics.specs.Deck.{DeckValue, name_of, nodes, drives, farads_at, terminals_at, look_up}
+use Rattle.semantics.specs.Valid.{is_valid}
 use Rattle.deck_cards.specs.declared.facts.NodeFacts.{NodeFacts}
 
 -- the place of the first that passes
@@ -15,9 +16,9 @@ place_of p (x ∷ xs) = if p x then Some 0 else option_map (λ i. i + 1) (place_
 unfoldable pub source_of : List ℕ → List Element → Option ℕ
 source_of n es = place_of (λ e. is_some (drives n e)) es
 
--- the sum of the sizes of the capacitors at the node
-unfoldable pub farads_of : List ℕ → List Element → ℕ
-farads_of n es = fold (λ total e. total + unsigned_abs (farads_at n e)) 0 es
+-- the sum of the capacitors at the node
+unfoldable pub farads_of : List ℕ → List Element → ℤ
+farads_of n es = fold (λ total e. total +ℤ farads_at n e) (pos 0) es
 
 -- how many ends that carry current stand at the node
 unfoldable pub terminals_of : List ℕ → List Element → ℕ
@@ -26,10 +27,6 @@ terminals_of n es = fold (λ total e. total + terminals_at n e) 0 es
 -- what these elements and initial voltages say of the node
 abbrev pub known : List Element → List (List ℕ × ℤ) → List ℕ → NodeFacts
 known es initial n = record { source = source_of n es; farads = farads_of n es; terminals = terminals_of n es; initial = look_up n initial }
-
--- what no element and no initial voltage speaks of
-abbrev pub nothing : NodeFacts
-nothing = record { source = None; farads = 0; terminals = 0; initial = None }
 
 -- these are the nodes of the deck, and what is known of each
 pub record IsTable (d : DeckValue) (keys : List (List ℕ)) (row : List NodeFacts) : Type 0 where
@@ -41,6 +38,8 @@ abbrev pub ChangesAt : List (List ℕ) → List ℕ → (NodeFacts → NodeFacts
 ChangesAt names name g old new =
     (f : List ℕ → NodeFacts) → old ≡ map f names → new ≡ map (λ n. if bytes_eq n name then g (f n) else f n) names
 
--- a node of which this is known has what a free node needs
-abbrev pub holds : Bool → NodeFacts → Bool
-holds uic f = (nat_lt 0 f.farads && nat_le f.farads (10 ^ 12)) && ((uic || is_some f.initial) && nat_le f.terminals 1000)
+-- this deck is valid, these are the names of its elements and of its nodes, and what is known of each node
+pub record IsIndex (d : DeckValue) (elements keys : List (List ℕ)) (row : List NodeFacts) : Type 0 where
+  pub valid : IsTrue (is_valid d)
+  pub names : elements ≡ map name_of d.elements
+  pub table : IsTable d keys row

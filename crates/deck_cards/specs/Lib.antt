@@ -1,7 +1,10 @@
+pub mod Answers
 pub mod Checked
-pub mod Distinct
-pub mod Elements
 pub mod Facts
+pub mod Part
+pub mod Causes
+pub mod Cards
+pub mod Settled
 pub mod Refusal
 pub mod RowForm
 pub mod RowValues

@@ -1,60 +1,77 @@
-ghost use Rattle.std.specs.Prelude.{[], ◌≡◌, ◌<◌, ℕ, false, length, slice_get, unsigned_abs, Some, MatchOption, IfOk, IfSome, IfNone, IsTrue, option_map};
+ghost use Rattle.std.specs.Prelude.{[], ◌≡◌, ◌<◌, ℕ, false, length, slice_get, unsigned_abs, None, Some, IfOk, IfSome, IfNone, IsTrue, option_map};
 ghost use Rattle.std.specs.List.{list_any};
 ghost use Rattle.std.specs.Str.{bytes_eq};
-ghost use Rattle.semantics.specs.Deck.{nodes, driver, capacity, initial_of};
+ghost use Rattle.semantics.specs.Deck.{nodes, name_of, driver, capacity, initial_of, look_up};
 ghost use Rattle.semantics.specs.Valid.{is_valid};
-ghost use Rattle.deck_cards.specs.Checked.{checked};
+ghost use Rattle.deck_cards.specs.Answers.{Answers};
+ghost use Rattle.deck_cards.specs.Causes.{deck_cause};
+ghost use Rattle.deck_cards.specs.Part.{part_of};
+ghost use Rattle.deck_cards.specs.Settled.{settled};
 
-use crate::elements;
+use crate::edit_refusal::EditRefusal;
 use crate::nodes::NodeTable;
+use crate::part::Part;
 use crate::parts::DeckParts;
+use crate::settled::Settled;
+use crate::{adding, counts, elements, values};
+use indexmap::IndexSet;
 use semantics::{Element, Name, Title, Wave};
-use std::alloc::{AllocError, Global};
+use std::alloc::Global;
 use std::marker::Model;
 
 /// A valid deck. A contract sees what its cards say, and that is always valid.
 #[derive(Drop)]
 pub struct Deck {
-    parts: DeckParts,
-    /// Its nodes by name, for look-ups; no contract sees it.
+    cards: Settled,
+    /// The names of its elements, each at the element's place.
+    names: IndexSet<Name>,
+    /// Its nodes by name, and what is known of each.
     table: NodeTable,
 }
 
 impl Model for Deck {
-    ghost use Rattle.std.specs.Prelude.{◌≡◌, true};
     ghost use Rattle.semantics.specs.Deck.{DeckValue};
-    ghost use Rattle.semantics.specs.Valid.{is_valid};
-    ghost use Rattle.deck_cards.specs.Facts.{IsTable};
+    ghost use Rattle.deck_cards.specs.Cards.{deck_of};
+    ghost use Rattle.deck_cards.specs.Facts.{IsIndex};
 
     ghost Value = { DeckValue };
 
-    ghost view = { λ d. d.parts };
+    ghost view = { λ d. deck_of d.cards };
 
-    ghost invariant = { λ d. (is_valid d.parts ≡ true) × IsTable d.parts d.table.names.keys d.table.facts.items };
+    ghost invariant = { λ d. IsIndex (deck_of d.cards) d.names.keys d.table.names.keys d.table.facts.items };
 }
 
 impl Deck {
-    /// The deck of these parts, where it is valid: no name stands twice, each node is driven by at
-    /// most one source, each free node has a capacitance and an initial voltage, and each value is
-    /// in its limit. `None` exactly where it is not.
-    #[tactic(auto, using(crate::proofs::Meaning::grounded_and_limits), unfolding(crate::specs::Checked::checked, semantics::specs::Valid::is_valid))]
-    pub fn if_valid(alloc: Global, parts: DeckParts) -> Result<Option<Deck>, AllocError>
-        ensures { IfOk result (λ found. found ≡ checked parts) }
+    /// The valid deck that these parts say. Of two parts or initial voltages of one name the last
+    /// holds, at the place of the first.
+    ///
+    /// # Errors
+    ///
+    /// The first cause, in this order: for the elements one after another `DuplicateName`,
+    /// `NoSuchModel`, `NotGrounded` and `TwoDrivers`; then `Uncapped`, `NoInitial`, and `Limit` of a
+    /// value, of elements, of nodes, of a node's capacitance and of its terminals. `Memory` where
+    /// memory is wanting.
+    pub fn of(alloc: Global, parts: DeckParts) -> Result<Deck, EditRefusal>
+        ensures deck { IfOk result (λ deck. deck ≡ settled parts) }
+        ensures valid { IfOk result (λ deck. IsTrue (is_valid deck)) }
+        ensures cause { Answers result (deck_cause (settled parts)) }
+        ensures complete { IsTrue (is_valid (settled parts)) → Answers result None }
     {
-        if !parts.has_limits(alloc)? {
-            return Ok(None);
-        }
-        if !parts.has_elements(alloc)? {
-            return Ok(None);
-        }
-        if parts.elements.len() > 100_000 {
-            return Ok(None);
-        }
-        let table = NodeTable::of(alloc, &parts)?;
-        if !table.has_nodes(&parts) {
-            return Ok(None);
-        }
-        Ok(Some(Deck { parts, table }))
+        let cards = Settled::of(alloc, parts)?;
+        let names = adding::add_each(alloc, &cards)?;
+        let table = NodeTable::of(alloc, &cards)?;
+        table.check_capped()?;
+        table.check_initial(cards.uic)?;
+        values::check_values(alloc, &cards)?;
+        counts::check_elements(&cards)?;
+        counts::check_nodes(alloc, table.names.len(), &cards)?;
+        table.check_farads()?;
+        table.check_terminals()?;
+        Ok(Deck {
+            cards,
+            names,
+            table,
+        })
     }
 
     /// The stop tick, in picoseconds.
@@ -62,37 +79,36 @@ impl Deck {
         ensures value { result ≡ self.now.stop }
         ensures valid { IsTrue (is_valid self.now) }
     {
-        self.parts.stop
+        self.cards.stop
     }
 
-    /// The grain of voltages, in microvolts. No deck has models or tables yet.
+    /// The grain of voltages, in microvolts.
     pub fn grain(&self) -> u32
         ensures value { result ≡ self.now.grain }
         ensures valid { IsTrue (is_valid self.now) }
-        ensures parts { self.now.parts ≡ [] }
     {
-        self.parts.grain
+        self.cards.grain
     }
 
     /// Whether a free node without an initial voltage begins at 0.
     pub fn uic(&self) -> bool
         ensures { result ≡ self.now.uic }
     {
-        self.parts.uic
+        self.cards.uic
     }
 
     /// The first line of the deck.
     pub fn title(&self) -> &Title
         ensures { result.now ≡ self.now.title }
     {
-        &self.parts.title
+        &self.cards.title
     }
 
     /// The number of elements.
     pub fn len(&self) -> usize
         ensures { result ≡ length self.now.elements }
     {
-        self.parts.elements.len()
+        self.cards.elements.len()
     }
 
     /// The element at this place, in the order of the cards.
@@ -100,7 +116,7 @@ impl Deck {
         requires { place < length self.now.elements }
         ensures { slice_get self.now.elements place ≡ Some result.now }
     {
-        self.parts.element(place)
+        &self.cards.elements[place]
     }
 
     /// The number of nodes; ground is none.
@@ -134,7 +150,7 @@ impl Deck {
     {
         match self.table.facts[i].source {
             None => None,
-            Some(place) => { elements::drive_of(self.parts.element(place), &self.table.names[i]) }
+            Some(place) => { elements::drive_of(&self.cards.elements[place], &self.table.names[i]) }
         }
     }
 
@@ -143,7 +159,7 @@ impl Deck {
         requires { i < length (nodes self.now) }
         ensures { IfSome (slice_get (nodes self.now) i) (λ n. result ≡ capacity self.now n) }
     {
-        self.table.facts[i].farads
+        self.table.facts[i].farads.unsigned_abs() as u64
     }
 
     /// The voltage of this node at the beginning, in microvolts: the one that it is given, and else 0.
@@ -152,5 +168,29 @@ impl Deck {
         ensures { IfSome (slice_get (nodes self.now) i) (λ n. result ≡ initial_of self.now n) }
     {
         self.table.facts[i].initial.unwrap_or(0)
+    }
+
+    /// The voltage in microvolts that is given to a name at the beginning. `None` exactly where none
+    /// is. It has an effect where the name is that of a free node.
+    pub fn initial(&self, node: &Name) -> Option<i64>
+        ensures { result ≡ look_up node.now self.now.initial }
+    {
+        self.cards.initial.get(node).copied()
+    }
+
+    /// The place of the element of this name, in the order of the cards. `None` exactly where no
+    /// element has it.
+    pub fn place(&self, name: &Name) -> Option<usize>
+        ensures found { IfSome result (λ i. option_map name_of (slice_get self.now.elements i) ≡ Some name.now) }
+        ensures none { IfNone result (list_any (λ e. bytes_eq name.now (name_of e)) self.now.elements ≡ false) }
+    {
+        self.names.get_index_of(name)
+    }
+
+    /// The part of this name. `None` exactly where there is none.
+    pub fn part(&self, name: &Name) -> Option<&Part>
+        ensures { option_map (λ p. part_of p.now) result ≡ look_up name.now self.now.parts }
+    {
+        self.cards.parts.get(name)
     }
 }

@@ -2,10 +2,8 @@
 
 ghost use Rattle.std.specs.Prelude.{◌≡◌};
 ghost use Rattle.std.specs.Option.{option_map};
-ghost use Rattle.std.specs.List.{list_all};
 ghost use Rattle.semantics.specs.Deck as deck;
 ghost use Rattle.semantics.specs.Valid as valid;
-ghost use Rattle.deck_cards.specs.Elements.{has_own_part};
 
 use semantics::{Element, Name, Wave};
 
@@ -44,18 +42,6 @@ pub fn is_grounded(element: &Element) -> bool
     }
 }
 
-/// Whether the element's model or table is there. There is none yet, so no MOS device has one.
-pub fn has_part(element: &Element) -> bool
-    ensures { result ≡ has_own_part element.now }
-{
-    match element {
-        Element::Mos { .. } => false,
-        Element::Source { .. } => true,
-        Element::Capacitor { .. } => true,
-        Element::Resistor { .. } => true,
-    }
-}
-
 /// What the element drives the node with, and whether the node is its second.
 pub fn drive_of<'a>(element: &'a Element, node: &Name) -> Option<(&'a Wave, bool)>
     ensures { option_map (λ d. (d.0.now, d.1)) result ≡ deck.drives node.now element.now }
@@ -79,18 +65,4 @@ pub fn drive_of<'a>(element: &'a Element, node: &Name) -> Option<(&'a Wave, bool
         Element::Capacitor { .. } => None,
         Element::Mos { .. } => None,
     }
-}
-
-/// Whether each element stands between a node and ground, where it has to.
-pub fn are_grounded(elements: &[Element]) -> bool
-    ensures { result ≡ list_all valid.is_grounded elements.now }
-{
-    elements.iter().all(|element| is_grounded(element))
-}
-
-/// Whether each element has its model or table.
-pub fn have_parts(elements: &[Element]) -> bool
-    ensures { result ≡ list_all has_own_part elements.now }
-{
-    elements.iter().all(|element| has_part(element))
 }

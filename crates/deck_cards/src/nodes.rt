@@ -1,15 +1,22 @@
 //! The nodes of a deck, found by hash, and what is known of each.
 
-ghost use Rattle.std.specs.Prelude.{◌≡◌, ◌||◌, ◌+◌, ◌^◌, ◌<◌, ◌≤◌, true, [], Some, map, fold, length, take, IfOk, OnOk};
+ghost use Rattle.std.specs.Prelude.{◌≡◌, ℕ, ◌+◌, ◌*◌, ◌+ℤ◌, ◌^◌, ◌<◌, ◌≤◌, true, List, [], Some, map, fold, length, take, slice_get, option_and_then, unsigned_abs, FitsSigned, IfOk, IfSome, OnOk};
+ghost use Rattle.std.specs.Int.{w128};
 ghost use Rattle.std.specs.List.{All, flat_map, list_all};
-ghost use Rattle.std.specs.Option.{option_or, is_some};
-ghost use Rattle.semantics.specs.Deck.{ends_of, with_node, nodes};
-ghost use Rattle.semantics.specs.Valid.{differ, in_limits, is_grounded, has_nodes};
-ghost use Rattle.deck_cards.specs.Facts.{ChangesAt, IsTable, holds, known};
+ghost use Rattle.std.specs.Option.{option_or};
+ghost use Rattle.semantics.specs.Deck.{DeckValue, ends_of, with_node};
+ghost use Rattle.semantics.specs.Valid.{differ, is_grounded};
+ghost use Rattle.deck_cards.specs.Answers.{Answers};
+ghost use Rattle.deck_cards.specs.Cards.{deck_of};
+ghost use Rattle.deck_cards.specs.Causes.{uncapped, no_initial, node_farads, many_terminals};
+ghost use Rattle.deck_cards.specs.Facts.{ChangesAt, IsTable, farads_of, known};
 
+use crate::edit_refusal::EditRefusal;
+use crate::facts;
 use crate::facts::NodeFacts;
-use crate::parts::DeckParts;
-use indexmap::IndexSet;
+use crate::settled::Settled;
+use crate::which::Which;
+use indexmap::{IndexMap, IndexSet};
 use semantics::{Element, Name};
 use std::alloc::{AllocError, Global};
 
@@ -18,6 +25,7 @@ use std::alloc::{AllocError, Global};
 pub struct NodeTable {
     pub names: IndexSet<Name>,
     pub facts: Vec<NodeFacts>,
+    ghost sized: { length facts.items ≡ length names.keys },
 }
 
 /// Puts a name behind the nodes, where it is new and not ground.
@@ -31,7 +39,7 @@ fn add_node(names: &mut IndexSet<Name>, name: &Name) -> Result<(), AllocError>
 }
 
 /// Puts the ends of an element behind the nodes.
-fn add_ends(names: &mut IndexSet<Name>, element: &Element) -> Result<(), AllocError>
+pub fn add_ends(names: &mut IndexSet<Name>, element: &Element) -> Result<(), AllocError>
     ensures { OnOk result (names.new.keys ≡ fold with_node names.old.keys (ends_of element.now)) }
 {
     match element {
@@ -75,7 +83,7 @@ fn names_of(alloc: Global, elements: &[Element]) -> Result<IndexSet<Name>, Alloc
 fn count_terminal(names: &IndexSet<Name>, facts: &mut [NodeFacts], name: &Name)
     requires differ { differ names.now.keys ≡ true }
     requires size { length facts.old ≡ length names.now.keys }
-    requires room { All (λ f. f.terminals + 1 < 2 ^ 32) facts.old }
+    requires room { All (λ f. f.terminals + 1 < 2 ^ 64) facts.old }
     ensures { ChangesAt names.now.keys name.now (λ f. record f { terminals = f.terminals + 1 }) facts.old facts.new }
 {
     if let Some(place) = names.get_index_of(name) {
@@ -84,14 +92,14 @@ fn count_terminal(names: &IndexSet<Name>, facts: &mut [NodeFacts], name: &Name)
 }
 
 /// Adds a capacitance, where the name is a node.
-fn add_farads(names: &IndexSet<Name>, facts: &mut [NodeFacts], name: &Name, farads: u64)
+fn add_farads(names: &IndexSet<Name>, facts: &mut [NodeFacts], name: &Name, farads: &i128)
     requires differ { differ names.now.keys ≡ true }
     requires size { length facts.old ≡ length names.now.keys }
-    requires room { All (λ f. f.farads + farads < 2 ^ 64) facts.old }
-    ensures { ChangesAt names.now.keys name.now (λ f. record f { farads = f.farads + farads }) facts.old facts.new }
+    requires room { All (λ f. FitsSigned w128 (f.farads +ℤ farads.now)) facts.old }
+    ensures { ChangesAt names.now.keys name.now (λ f. record f { farads = f.farads +ℤ farads.now }) facts.old facts.new }
 {
     if let Some(place) = names.get_index_of(name) {
-        facts[place].farads += farads;
+        facts[place].farads += *farads;
     }
 }
 
@@ -107,16 +115,17 @@ fn note_source(names: &IndexSet<Name>, facts: &mut [NodeFacts], name: &Name, sou
 }
 
 /// Takes the element at this place into what is known of the nodes.
-fn note_element(names: &IndexSet<Name>, facts: &mut [NodeFacts], elements: &[Element], place: usize)
+fn note_element(names: &IndexSet<Name>, facts: &mut [NodeFacts], cards: &Settled, place: usize)
     requires differ { differ names.now.keys ≡ true }
-    requires within { place < length elements.now }
-    requires few { length elements.now ≤ 100000 }
-    requires limits { list_all in_limits elements.now ≡ true }
-    requires grounded { list_all is_grounded elements.now ≡ true }
-    requires before { facts.old ≡ map (known (take place elements.now) []) names.now.keys }
-    ensures { facts.new ≡ map (known (take (place + 1) elements.now) []) names.now.keys }
+    requires within { place < length cards.now.elements.items }
+    requires few { length cards.now.elements.items < 2 ^ 63 }
+    requires grounded { list_all is_grounded cards.now.elements.items ≡ true }
+    requires before { facts.old ≡ map (known (take place cards.now.elements.items) cards.now.initial.entries) names.now.keys }
+    requires small { (n : List ℕ) → unsigned_abs (farads_of n (take place cards.now.elements.items)) ≤ 2 ^ 63 * place }
+    ensures after { facts.new ≡ map (known (take (place + 1) cards.now.elements.items) cards.now.initial.entries) names.now.keys }
+    ensures small { (n : List ℕ) → unsigned_abs (farads_of n (take (place + 1) cards.now.elements.items)) ≤ 2 ^ 63 * (place + 1) }
 {
-    match &elements[place] {
+    match &cards.elements[place] {
         Element::Resistor { first, second, .. } => {
             count_terminal(names, facts, first);
             count_terminal(names, facts, second);
@@ -127,9 +136,9 @@ fn note_element(names: &IndexSet<Name>, facts: &mut [NodeFacts], elements: &[Ele
             farads,
             ..
         } => {
-            let size = farads.unsigned_abs();
-            add_farads(names, facts, plus, size);
-            add_farads(names, facts, minus, size);
+            let farads = i128::from(*farads);
+            add_farads(names, facts, plus, &farads);
+            add_farads(names, facts, minus, &farads);
         }
         Element::Source { plus, minus, .. } => {
             note_source(names, facts, plus, place);
@@ -142,70 +151,102 @@ fn note_element(names: &IndexSet<Name>, facts: &mut [NodeFacts], elements: &[Ele
     }
 }
 
-/// Takes the initial voltage at this place into what is known of the nodes.
-fn note_initial(names: &IndexSet<Name>, facts: &mut [NodeFacts], parts: &DeckParts, place: usize)
-    requires differ { differ names.now.keys ≡ true }
-    requires within { place < length parts.now.initial }
-    requires before { facts.old ≡ map (known parts.now.elements (take place parts.now.initial)) names.now.keys }
-    ensures { facts.new ≡ map (known parts.now.elements (take (place + 1) parts.now.initial)) names.now.keys }
+/// What the initial voltages say of each node.
+fn unnoted(
+    alloc: Global,
+    names: &IndexSet<Name>,
+    initial: &IndexMap<Name, i64>,
+) -> Result<Vec<NodeFacts>, AllocError>
+    ensures { IfOk result (λ facts. facts.items ≡ map (known [] initial.now.entries) names.now.keys) }
 {
-    let (name, volts) = &parts.initial[place];
-    if let Some(node) = names.get_index_of(name) {
-        facts[node].initial = facts[node].initial.or(Some(*volts));
+    let mut facts = Vec::with_capacity(alloc, names.len())?;
+    for name in names.as_slice() {
+        facts.push(NodeFacts {
+            source: None,
+            farads: 0,
+            terminals: 0,
+            initial: initial.get(name).copied(),
+        })?;
     }
+    Ok(facts)
 }
 
 /// What these elements and initial voltages say of each node.
 fn facts_of(
     alloc: Global,
     names: &IndexSet<Name>,
-    parts: &DeckParts,
+    cards: &Settled,
 ) -> Result<Vec<NodeFacts>, AllocError>
     requires differ { differ names.now.keys ≡ true }
-    requires few { length parts.now.elements ≤ 100000 }
-    requires limits { list_all in_limits parts.now.elements ≡ true }
-    requires grounded { list_all is_grounded parts.now.elements ≡ true }
-    ensures { IfOk result (λ facts. facts.items ≡ map (known parts.now.elements parts.now.initial) names.now.keys) }
+    requires grounded { list_all is_grounded cards.now.elements.items ≡ true }
+    ensures { IfOk result (λ facts. facts.items ≡ map (known cards.now.elements.items cards.now.initial.entries) names.now.keys) }
 {
-    let mut facts = vec![in alloc; NodeFacts::NONE; names.len()]?;
-    for place in 0..parts.elements.len() {
-        note_element(names, &mut facts, &parts.elements, place);
-    }
-    for place in 0..parts.initial.len() {
-        note_initial(names, &mut facts, parts, place);
+    let mut facts = unnoted(alloc, names, &cards.initial)?;
+    for place in 0..cards.elements.len() {
+        note_element(names, &mut facts, cards, place);
     }
     Ok(facts)
 }
 
-/// Whether each of these nodes is driven or has what a free node needs.
-fn are_held(facts: &[NodeFacts], uic: bool) -> bool
-    ensures { result ≡ list_all (λ f. is_some f.source || holds uic f) facts.now }
-{
-    facts
-        .iter()
-        .all(|facts| facts.source.is_some() || facts.is_held(uic))
-}
-
 impl NodeTable {
-    /// The nodes of these parts.
-    pub fn of(alloc: Global, parts: &DeckParts) -> Result<NodeTable, AllocError>
-        requires few { length parts.now.elements ≤ 100000 }
-        requires limits { list_all in_limits parts.now.elements ≡ true }
-        requires grounded { list_all is_grounded parts.now.elements ≡ true }
-        ensures { IfOk result (λ table. IsTable parts.now table.names.keys table.facts.items) }
+    /// The nodes of these cards.
+    pub fn of(alloc: Global, cards: &Settled) -> Result<NodeTable, AllocError>
+        requires { list_all is_grounded cards.now.elements.items ≡ true }
+        ensures { IfOk result (λ table. IsTable (deck_of cards.now) table.names.keys table.facts.items) }
     {
-        let names = names_of(alloc, &parts.elements)?;
-        let facts = facts_of(alloc, &names, parts)?;
+        let names = names_of(alloc, &cards.elements)?;
+        let facts = facts_of(alloc, &names, cards)?;
         Ok(NodeTable { names, facts })
     }
 
-    /// Whether there are few enough nodes, and each free node has what it needs.
-    pub fn has_nodes(&self, parts: &DeckParts) -> bool
-        requires few { length parts.now.elements ≤ 100000 }
-        requires limits { list_all in_limits parts.now.elements ≡ true }
-        requires table { IsTable parts.now self.now.names.keys self.now.facts.items }
-        ensures { result ≡ has_nodes parts.now }
+    /// The name of the node at a place, where there is one to tell.
+    fn named(&self, place: Option<usize>) -> Result<Option<Name>, AllocError>
+        requires { IfSome place (λ i. i < length self.now.names.keys) }
+        ensures { IfOk result (λ name. name ≡ option_and_then (slice_get self.now.names.keys) place) }
     {
-        self.names.len() <= 100_000 && are_held(&self.facts, parts.uic)
+        match place {
+            None => Ok(None),
+            Some(place) => Ok(Some(self.names[place].copy()?)),
+        }
+    }
+
+    /// Refuses the first free node that has no capacitance.
+    pub fn check_capped(&self) -> Result<(), EditRefusal>
+        ensures { (d : DeckValue) → IsTable d self.now.names.keys self.now.facts.items → Answers result (uncapped d) }
+    {
+        match self.named(facts::first_uncapped(&self.facts))? {
+            None => Ok(()),
+            Some(name) => Err(EditRefusal::Uncapped(name)),
+        }
+    }
+
+    /// Refuses the first free node that has no initial voltage, where `uic` does not stand for it.
+    pub fn check_initial(&self, uic: bool) -> Result<(), EditRefusal>
+        ensures { (d : DeckValue) → IsTable d self.now.names.keys self.now.facts.items → uic ≡ d.uic → Answers result (no_initial d) }
+    {
+        match self.named(facts::first_without_voltage(&self.facts, uic))? {
+            None => Ok(()),
+            Some(name) => Err(EditRefusal::NoInitial(name)),
+        }
+    }
+
+    /// Refuses the first free node whose capacitance is above 1 µF.
+    pub fn check_farads(&self) -> Result<(), EditRefusal>
+        ensures { (d : DeckValue) → IsTable d self.now.names.keys self.now.facts.items → Answers result (node_farads d) }
+    {
+        match self.named(facts::first_over_capped(&self.facts))? {
+            None => Ok(()),
+            Some(name) => Err(EditRefusal::Limit(Which::NodeFarads, name)),
+        }
+    }
+
+    /// Refuses the first free node at which more than 1,000 ends stand that carry current.
+    pub fn check_terminals(&self) -> Result<(), EditRefusal>
+        ensures { (d : DeckValue) → IsTable d self.now.names.keys self.now.facts.items → Answers result (many_terminals d) }
+    {
+        match self.named(facts::first_crowded(&self.facts))? {
+            None => Ok(()),
+            Some(name) => Err(EditRefusal::Limit(Which::Terminals, name)),
+        }
     }
 }

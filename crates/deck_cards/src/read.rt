@@ -1,14 +1,46 @@
 //! The reader of a deck text.
 
-ghost use Rattle.std.specs.Prelude.{◌≡◌, map, IfOk};
+ghost use Rattle.std.specs.Prelude.{◌≡◌, false, None, map, IfOk};
+ghost use Rattle.deck_cards.specs.Answers.{Refuses};
+ghost use Rattle.deck_cards.specs.Checked.{checked};
 ghost use Rattle.deck_cards.specs.Refusal.{Reads};
 ghost use Rattle.deck_cards.specs.RowForm.{first_deck, lines_deck};
+ghost use Rattle.deck_cards.specs.Settled.{settled};
 
 use crate::deck::Deck;
+use crate::edit_refusal::EditRefusal;
+use crate::parts::DeckParts;
 use crate::refusal::{DeckRefusal, DeckWhy};
 use crate::{row, words};
 use semantics::Title;
 use std::alloc::{AllocError, Global};
+
+/// Whether memory was wanting. Each other refusal means that the parts make no valid deck.
+fn is_memory(refusal: &EditRefusal) -> bool
+    ensures { result ≡ false → Refuses refusal.now None → ⊥ }
+{
+    match refusal {
+        EditRefusal::Memory => true,
+        _ => false,
+    }
+}
+
+/// The deck of these parts, if it is valid.
+#[tactic(auto, using(crate::proofs::Validity::checked_valid, crate::proofs::Validity::checked_not))]
+fn if_valid(alloc: Global, parts: DeckParts) -> Result<Option<Deck>, AllocError>
+    ensures { IfOk result (λ found. found ≡ checked (settled parts)) }
+{
+    match Deck::of(alloc, parts) {
+        Ok(deck) => Ok(Some(deck)),
+        Err(refusal) => {
+            if is_memory(&refusal) {
+                Err(AllocError)
+            } else {
+                Ok(None)
+            }
+        }
+    }
+}
 
 /// The deck that these lines say, if they are in the row form and it is valid.
 #[tactic(auto, unfolding(crate::specs::RowForm::lines_deck))]
@@ -28,7 +60,7 @@ fn read_lines(alloc: Global, lines: &[&[u8]]) -> Result<Option<Deck>, AllocError
     let title = Title::of(Vec::from_slice(alloc, *title)?);
     match row::parts_of(alloc, title, row)? {
         None => Ok(None),
-        Some(parts) => Deck::if_valid(alloc, parts),
+        Some(parts) => if_valid(alloc, parts),
     }
 }
 

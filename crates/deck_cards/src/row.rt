@@ -3,6 +3,7 @@
 ghost use Rattle.std.specs.Prelude.{◌≡◌, [], ◌∷◌, ◌^◌, ◌≤◌, nat_lt, pos, map, if◌then◌else◌, IfOk, IfSome, IfNone};
 ghost use Rattle.std.specs.Option.{option_and_then};
 ghost use Rattle.deck_cards.specs.Checked.{checked};
+ghost use Rattle.deck_cards.specs.Settled.{settled};
 ghost use Rattle.semantics.specs.declared.element.Element.TheVariants as ElementVariants;
 ghost use Rattle.deck_cards.specs.RowForm as form;
 ghost use Rattle.deck_cards.specs.RowValues.{IsOf, IsNoDeck};
@@ -290,6 +291,7 @@ fn parts_with(
         stop: values.stop,
         uic: false,
         grain: values.grain,
+        parts: Vec::new(alloc),
         initial,
         elements: vec![in alloc; source, resistor, capacitor]?,
     })
@@ -298,7 +300,7 @@ fn parts_with(
 /// The parts of the deck of these cards. `None` only where a value is so large that the deck is
 /// not valid.
 pub fn parts_of(alloc: Global, title: Title, row: Row) -> Result<Option<DeckParts>, AllocError>
-    ensures { IfOk result (λ parts. option_and_then checked parts ≡ checked (form.row_deck title row)) }
+    ensures { IfOk result (λ parts. option_and_then (λ p. checked (settled p)) parts ≡ checked (form.row_deck title row)) }
 {
     match values_of(&row) {
         None => Ok(None),

@@ -1,9 +1,311 @@
-use crate::{Deck, DeckParts, DeckWhy, Element, Name, Title, Wave, read_first};
+use crate::{Deck, DeckParts, DeckWhy, Element, Name, Part, Title, Wave, read_first};
+use Card::{Capacitor, Grain, Initial, Mos, Resistor, Source, Stop, Table as TableCard, Uic};
+use device_tables::{Grid, Table};
 use std::alloc::{AllocError, Global};
+use std::fmt::Write;
 use std::test::Fail;
 
-const ROW: &[u8] =
-    b"rc\nV1 a 0 1\nR1 a b 1k\nC1 b 0 1p\n.IC V(b)=0\n.OPTIONS GRAIN=100m\n.TRAN 1p 1n\n.END\n";
+/// What a card says: its name and nodes, and its values; a device has its drain, gate, source and part.
+enum Card {
+    Uic,
+    Stop(u64),
+    Grain(u32),
+    Initial(&'static str, i64),
+    /// A table of one current in all cells.
+    Table(&'static str, i64),
+    Resistor(&'static str, &'static str, &'static str, i64),
+    Capacitor(&'static str, &'static str, &'static str, i64),
+    Source(&'static str, &'static str, &'static str, u64, i64),
+    Mos(&'static str, &'static str, &'static str, &'static str, &'static str, i64, i64),
+}
+
+/// Cards, and the cause why they make no deck: each cause once, and each two neighbours once, of
+/// which the first is told.
+const CAUSES: &[(&[Card], &str)] = &[
+    (
+        &[
+            Source("v1", "a", "0", 0, 5),
+            Resistor("r1", "a", "b", 1),
+            Capacitor("c1", "b", "0", 1),
+            Initial("b", 0),
+        ],
+        "none",
+    ),
+    (
+        &[Resistor("r1", "0", "gnd", 1), Resistor("r1", "0", "gnd", 1)],
+        "DuplicateName(r1)",
+    ),
+    (
+        &[Mos("m1", "0", "0", "0", "sw", 1, 1), TableCard("sn", 0)],
+        "NoSuchModel(sw)",
+    ),
+    (&[Capacitor("c1", "a", "b", 1)], "NotGrounded(c1)"),
+    (&[Capacitor("c1", "0", "gnd", 1)], "NotGrounded(c1)"),
+    (
+        &[Source("v1", "a", "0", 0, 5), Source("v2", "0", "a", 0, 5)],
+        "TwoDrivers(a)",
+    ),
+    (
+        &[
+            Source("v1", "a", "0", 0, 5),
+            Resistor("r1", "a", "b", 1),
+            Resistor("r2", "b", "c", 1),
+            Uic,
+        ],
+        "Uncapped(b)",
+    ),
+    (
+        &[
+            Capacitor("c1", "b", "0", 5),
+            Capacitor("c2", "0", "b", -5),
+            Uic,
+        ],
+        "Uncapped(b)",
+    ),
+    (
+        &[
+            Capacitor("c1", "b", "0", 1),
+            Capacitor("c2", "c", "0", 1),
+            Initial("c", 0),
+        ],
+        "NoInitial(b)",
+    ),
+    (&[Stop(10_000_000_000)], "none"),
+    (&[Stop(10_000_000_001)], "Limit(Seconds, .tran)"),
+    (&[Grain(1_000_000)], "none"),
+    (&[Grain(3)], "Limit(Grain, .options)"),
+    (&[Initial("q", 1_000_000_001)], "Limit(Volts, q)"),
+    (&[Initial("q", 1_000_000_001), Initial("q", 0)], "none"),
+    (
+        &[
+            Initial("p", 1_000_000_001),
+            Initial("q", 1_000_000_001),
+            Initial("p", 1_000_000_002),
+        ],
+        "Limit(Volts, p)",
+    ),
+    (
+        &[Source("v1", "a", "0", 10_000_000_001, 1_000_000_001)],
+        "Limit(Seconds, v1)",
+    ),
+    (
+        &[Source("v1", "a", "0", 0, -1_000_000_001)],
+        "Limit(Volts, v1)",
+    ),
+    (&[Resistor("r1", "0", "0", 0)], "Limit(Ohms, r1)"),
+    (&[Capacitor("c1", "a", "0", -1), Uic], "Limit(Farads, c1)"),
+    (
+        &[Mos("m1", "0", "0", "0", "sw", 1, 0), TableCard("sw", 0)],
+        "Limit(Metres, m1)",
+    ),
+    (
+        &[
+            Capacitor("c1", "b", "0", 600_000_000_000),
+            Capacitor("c2", "b", "0", 600_000_000_000),
+            Uic,
+        ],
+        "Limit(NodeFarads, b)",
+    ),
+    (
+        &[
+            Resistor("r1", "0", "0", 1),
+            Capacitor("c1", "a", "b", 1),
+            Capacitor("c1", "a", "b", 1),
+        ],
+        "NotGrounded(c1)",
+    ),
+    (
+        &[
+            TableCard("sw", 0),
+            Mos("m1", "0", "0", "0", "sw", 1, 1),
+            Mos("m1", "0", "0", "0", "sn", 1, 1),
+        ],
+        "DuplicateName(m1)",
+    ),
+    (
+        &[
+            Mos("m1", "0", "0", "0", "sn", 1, 1),
+            Capacitor("c1", "a", "b", 1),
+        ],
+        "NoSuchModel(sn)",
+    ),
+    (
+        &[Source("v1", "a", "0", 0, 5), Source("v2", "a", "b", 0, 5)],
+        "NotGrounded(v2)",
+    ),
+    (
+        &[
+            Resistor("r1", "b", "c", 1),
+            Source("v1", "a", "0", 0, 5),
+            Source("v2", "a", "0", 0, 5),
+        ],
+        "TwoDrivers(a)",
+    ),
+    (
+        &[Capacitor("c1", "b", "0", 1), Resistor("r1", "b", "c", 1)],
+        "Uncapped(c)",
+    ),
+    (
+        &[Capacitor("c1", "b", "0", 1), Stop(10_000_000_001)],
+        "NoInitial(b)",
+    ),
+    (&[Stop(10_000_000_001), Grain(3)], "Limit(Seconds, .tran)"),
+    (
+        &[Grain(3), Initial("q", 1_000_000_001)],
+        "Limit(Grain, .options)",
+    ),
+    (
+        &[Resistor("r1", "0", "0", 0), Initial("q", 1_000_000_001)],
+        "Limit(Volts, q)",
+    ),
+    (
+        &[
+            Resistor("r1", "0", "0", 0),
+            Capacitor("c1", "b", "0", 600_000_000_000),
+            Capacitor("c2", "b", "0", 600_000_000_000),
+            Uic,
+        ],
+        "Limit(Ohms, r1)",
+    ),
+];
+
+/// Cards and a number of resistors from `a` to `b` behind them, and why they make no deck.
+const COUNTS: &[(&[Card], u32, &str)] = &[
+    (
+        &[
+            Source("v1", "a", "0", 0, 5),
+            Capacitor("c1", "b", "0", 1),
+            Uic,
+        ],
+        1_000,
+        "none",
+    ),
+    (
+        &[
+            Source("v1", "a", "0", 0, 5),
+            Capacitor("c1", "b", "0", 1),
+            Uic,
+        ],
+        1_001,
+        "Limit(Terminals, b)",
+    ),
+    (
+        &[
+            Source("v1", "a", "0", 0, 5),
+            Capacitor("c1", "b", "0", 600_000_000_000),
+            Capacitor("c2", "b", "0", 600_000_000_000),
+            Uic,
+        ],
+        1_001,
+        "Limit(NodeFarads, b)",
+    ),
+    (
+        &[
+            Source("v1", "a", "0", 0, 5),
+            Capacitor("c1", "b", "0", 600_000_000_000),
+            Capacitor("c2", "b", "0", 600_000_000_000),
+            Uic,
+        ],
+        99_998,
+        "Limit(Elements, x99997)",
+    ),
+    (
+        &[
+            Source("v1", "a", "0", 0, 5),
+            Capacitor("c1", "b", "0", 1),
+            Stop(10_000_000_001),
+            Uic,
+        ],
+        99_999,
+        "Limit(Seconds, .tran)",
+    ),
+];
+
+/// A device with a node at its drain alone, a node at its gate, and a source on its second node.
+const SWITCH: &[Card] = &[
+    Source("v1", "gnd", "a", 0, 5),
+    Mos("m1", "d", "g", "gnd", "sw", 1, 2),
+    Capacitor("c1", "d", "0", 3),
+    Capacitor("c2", "gnd", "g", 4),
+    Capacitor("c3", "d", "0", 30),
+    TableCard("sw", 9),
+    Initial("d", -6),
+    Initial("g", 7),
+];
+
+/// Initial voltages and tables of which a name stands twice.
+const TWICE: &[Card] = &[
+    Capacitor("c1", "b", "0", 1),
+    Initial("b", 1),
+    Initial("q", 2),
+    Initial("b", 3),
+    TableCard("sw", 1),
+    TableCard("sn", 2),
+    TableCard("sw", 3),
+];
+
+/// Cards, a name, and what a deck of them has under it: a node, an element, a voltage and a current.
+const NAMES: &[(&[Card], &str, &str)] = &[
+    (SWITCH, "G", "G Some(2) None Some(7) None;"),
+    (SWITCH, "gnd", "gnd None None None None;"),
+    (SWITCH, "c2", "c2 None Some(3) None None;"),
+    (SWITCH, "sw", "sw None None None Some(9);"),
+    (TWICE, "b", "b Some(0) None Some(3) None;"),
+    (TWICE, "q", "q None None Some(2) None;"),
+    (TWICE, "sw", "sw None None None Some(3);"),
+];
+
+/// Cards, and what a deck of them says of itself and of its nodes.
+const SAID: &[(&[Card], &str)] = &[(SWITCH, "0 7 2 false 5;a 0 0 1 true;d 33 -6;g 4 7;")];
+
+/// What may stand in the row deck in place of what it has.
+const TAKEN: &[(&str, &str)] = &[
+    ("rc\n", "* \u{e9} ; the title is not looked at\n"),
+    ("1k\n", "1000\n"),
+    ("b 0 1p", "b GND 1000f"),
+    ("V(b)=0", ", v ((b))=0,"),
+    ("\n.TRAN 1p", "\n\n  \n.TRAN 000000000000001p"),
+    (".END\n", ".END\nv2 what is here is not read"),
+    ("100m", "2u"),
+    ("100m", "1"),
+    ("1p 1n", "1p 10m"),
+    ("1p 1n", "1 0"),
+    ("b 0 1p", "b 0 1u"),
+];
+
+/// What may not.
+const REFUSED: &[(&str, &str)] = &[
+    ("rc\n", ""),
+    ("1k\n", "1k \u{e9}\n"),
+    ("1k\n", "1k ; ohms\n"),
+    ("1k\n", "1k $\n"),
+    ("R1", "* a comment\nR1"),
+    ("1k", "\n+ 1k"),
+    ("1k", "1meg"),
+    ("1k", "1.0k"),
+    ("1k", "-1k"),
+    ("1k", "k"),
+    ("1k", "0000000000001000"),
+    ("1k", "1u"),
+    ("1k", "0"),
+    ("1k", "999999999999999k"),
+    ("V1 a 0 1", "V1 a 0 1001"),
+    ("V1 a 0 1", "V1 a b 1"),
+    ("V1 a 0 1", "V1 0 gnd 1"),
+    ("V1 a 0 1", "V1 a 0 dc 1"),
+    ("R1", "C1"),
+    ("b 0 1p", "b 0 0"),
+    ("b 0 1p", "b 0 1001n"),
+    ("V(b)", "V(a)"),
+    ("V(b)", "I(b)"),
+    ("100m", "3u"),
+    ("100m", "1u"),
+    ("1p 1n", "1p"),
+    ("1p 1n", "1p 11m"),
+    ("1p 1n", "1p 1n uic"),
+    (".END", ".ENDS"),
+    (".END\n", ""),
+];
 
 /// The row deck with its first `old` put as `new`.
 fn with(alloc: Global, old: &str, new: &str) -> Result<Vec<u8>, AllocError> {
@@ -21,58 +323,143 @@ fn with(alloc: Global, old: &str, new: &str) -> Result<Vec<u8>, AllocError> {
     Ok(text)
 }
 
+/// A name; `?` stands for a text that is none.
+fn name(alloc: Global, text: &str) -> Result<Name, AllocError> {
+    if text.is_ascii() {
+        Name::of(alloc, text.as_bytes())
+    } else {
+        Name::of(alloc, b"?")
+    }
+}
+
+/// A table of one current in all cells.
+fn table(alloc: Global, amps: i64) -> Result<Table, Fail> {
+    let gate = Grid::of_list(Vec::new(alloc))?;
+    let drain = Grid::of_list(Vec::new(alloc))?;
+    Ok(Table::explicit(gate, drain, vec![in alloc; amps]?)?)
+}
+
+/// The element of a card, where it is one.
+fn element(alloc: Global, card: &Card) -> Result<Option<Element>, Fail> {
+    let element = match card {
+        Resistor(own, first, second, ohms) => Element::Resistor {
+            name: name(alloc, own)?,
+            first: name(alloc, first)?,
+            second: name(alloc, second)?,
+            ohms: *ohms,
+        },
+        Capacitor(own, plus, minus, farads) => Element::Capacitor {
+            name: name(alloc, own)?,
+            plus: name(alloc, plus)?,
+            minus: name(alloc, minus)?,
+            farads: *farads,
+        },
+        Source(own, plus, minus, tick, volts) => Element::Source {
+            name: name(alloc, own)?,
+            plus: name(alloc, plus)?,
+            minus: name(alloc, minus)?,
+            wave: Wave::pwl(vec![in alloc; (*tick, *volts)]?)?,
+        },
+        Mos(own, drain, gate, source, part, length, width) => Element::Mos {
+            name: name(alloc, own)?,
+            drain: name(alloc, drain)?,
+            gate: name(alloc, gate)?,
+            source: name(alloc, source)?,
+            bulk: name(alloc, "0")?,
+            part: name(alloc, part)?,
+            length: *length,
+            width: *width,
+        },
+        _ => return Ok(None),
+    };
+    Ok(Some(element))
+}
+
+/// Takes a card into the parts.
+fn take(alloc: Global, parts: &mut DeckParts, card: &Card) -> Result<(), Fail> {
+    match card {
+        Uic => parts.uic = true,
+        Stop(tick) => parts.stop = *tick,
+        Grain(volts) => parts.grain = *volts,
+        Initial(node, volts) => parts.initial.push((name(alloc, node)?, *volts))?,
+        TableCard(part, amps) => {
+            let listed = Part::Listed(table(alloc, *amps)?);
+            parts.parts.push((name(alloc, part)?, listed))?;
+        }
+        card => {
+            if let Some(element) = element(alloc, card)? {
+                parts.elements.push(element)?;
+            }
+        }
+    }
+    Ok(())
+}
+
+/// The parts that these cards say.
+fn parts(alloc: Global, cards: &[Card]) -> Result<DeckParts, Fail> {
+    let mut parts = DeckParts {
+        title: Title::of(Vec::new(alloc)),
+        stop: 7,
+        uic: false,
+        grain: 2,
+        parts: Vec::new(alloc),
+        initial: Vec::new(alloc),
+        elements: Vec::new(alloc),
+    };
+    for card in cards {
+        take(alloc, &mut parts, card)?;
+    }
+    Ok(parts)
+}
+
+/// What a deck of these parts is refused for.
+fn told(alloc: Global, parts: DeckParts) -> Result<String, AllocError> {
+    match Deck::of(alloc, parts) {
+        Ok(_) => format!(in alloc; "none"),
+        Err(refusal) => format!(in alloc; "{refusal:?}"),
+    }
+}
+
+#[test]
+fn refusals(rt: HostRuntime) -> Result<(), Fail> {
+    for (k, (cards, cause)) in CAUSES.iter().enumerate() {
+        let deck = parts(rt.alloc(), cards)?;
+        assert_eq!(rt; told(rt.alloc(), deck)?.as_str(), *cause, "case {k}");
+    }
+    Ok(())
+}
+
+/// The parts of these cards, and resistors from `a` to `b` behind them.
+fn with_resistors(alloc: Global, cards: &[Card], count: u32) -> Result<DeckParts, Fail> {
+    let mut parts = parts(alloc, cards)?;
+    for i in 0..count {
+        let own = format!(in alloc; "x{i}")?;
+        parts.elements.push(Element::Resistor {
+            name: name(alloc, own.as_str())?,
+            first: name(alloc, "a")?,
+            second: name(alloc, "b")?,
+            ohms: 1,
+        })?;
+    }
+    Ok(parts)
+}
+
+#[test]
+fn numbers_of_things(rt: HostRuntime) -> Result<(), Fail> {
+    for (cards, count, cause) in COUNTS {
+        let deck = with_resistors(rt.alloc(), cards, *count)?;
+        assert_eq!(rt; told(rt.alloc(), deck)?.as_str(), *cause, "{count}");
+    }
+    Ok(())
+}
+
 #[test]
 fn reads_the_row_form(rt: HostRuntime) -> Result<(), Fail> {
-    let taken = [
-        ("rc\n", "* \u{e9} ; the title is not looked at\n"),
-        ("1k\n", "1000\n"),
-        ("b 0 1p", "b GND 1000f"),
-        ("V(b)=0", ", v ((b))=0,"),
-        ("\n.TRAN 1p", "\n\n  \n.TRAN 000000000000001p"),
-        (".END\n", ".END\nv2 what is here is not read"),
-        ("100m", "2u"),
-        ("100m", "1"),
-        ("1p 1n", "1p 10m"),
-        ("1p 1n", "1 0"),
-        ("b 0 1p", "b 0 1u"),
-    ];
-    for (old, new) in taken {
+    for (old, new) in TAKEN {
         let text = with(rt.alloc(), old, new)?;
         assert!(rt; read_first(rt.alloc(), &text).is_ok(), "{old} as {new}");
     }
-    let refused = [
-        ("rc\n", ""),
-        ("1k\n", "1k \u{e9}\n"),
-        ("1k\n", "1k ; ohms\n"),
-        ("1k\n", "1k $\n"),
-        ("R1", "* a comment\nR1"),
-        ("1k", "\n+ 1k"),
-        ("1k", "1meg"),
-        ("1k", "1.0k"),
-        ("1k", "-1k"),
-        ("1k", "k"),
-        ("1k", "0000000000001000"),
-        ("1k", "1u"),
-        ("1k", "0"),
-        ("1k", "999999999999999k"),
-        ("V1 a 0 1", "V1 a 0 1001"),
-        ("V1 a 0 1", "V1 a b 1"),
-        ("V1 a 0 1", "V1 0 gnd 1"),
-        ("V1 a 0 1", "V1 a 0 dc 1"),
-        ("R1", "C1"),
-        ("b 0 1p", "b 0 0"),
-        ("b 0 1p", "b 0 1001n"),
-        ("V(b)", "V(a)"),
-        ("V(b)", "I(b)"),
-        ("100m", "3u"),
-        ("100m", "1u"),
-        ("1p 1n", "1p"),
-        ("1p 1n", "1p 11m"),
-        ("1p 1n", "1p 1n uic"),
-        (".END", ".ENDS"),
-        (".END\n", ""),
-    ];
-    for (old, new) in refused {
+    for (old, new) in REFUSED {
         let text = with(rt.alloc(), old, new)?;
         match read_first(rt.alloc(), &text) {
             Ok(_) => assert!(rt; false, "{old} as {new} is taken"),
@@ -85,85 +472,64 @@ fn reads_the_row_form(rt: HostRuntime) -> Result<(), Fail> {
     Ok(())
 }
 
-#[test]
-fn says_what_the_row_says(rt: HostRuntime) -> Result<(), Fail> {
-    let deck = read_first(rt.alloc(), ROW)?;
-    assert!(rt; deck.title().bytes() == b"rc".as_slice());
-    assert_eq!(rt; (deck.stop(), deck.grain()), (1_000, 100_000));
-    assert!(rt; !deck.uic());
-    assert_eq!(rt; deck.len(), 3);
-    match deck.element(1) {
-        Element::Resistor { name, ohms, .. } => assert!(rt;
-            name.as_str() == "r1" && *ohms == 1_000_000
-        ),
-        _ => assert!(rt; false, "no resistor"),
+/// The current of a part in its first cells.
+fn first_amps(part: &Part) -> i64 {
+    match part {
+        Part::Listed(table) => table.current(0, 0),
     }
-    assert_eq!(rt; deck.node_count(), 2);
-    assert!(rt; deck.node(0).as_str() == "a" && deck.node(1).as_str() == "b");
-    assert_eq!(rt; deck.node_place(&Name::of(rt.alloc(), b"B")?), Some(1));
-    assert_eq!(rt; deck.node_place(&Name::of(rt.alloc(), b"0")?), None);
-    assert_eq!(rt; (deck.capacity(0), deck.capacity(1)), (0, 1_000_000));
-    assert_eq!(rt; deck.initial_volts(1), 0);
-    assert!(rt; deck.drive(1).is_none());
-    match deck.drive(0) {
-        None => assert!(rt; false, "not driven"),
-        Some((wave, turned)) => {
-            assert!(rt; !turned);
-            assert_eq!(rt; wave.len(), 1);
-            assert_eq!(rt; wave.point(0), (0, 1_000_000));
-        }
+}
+
+/// What a deck has under each of these names: a node, an element, an initial voltage and a part.
+fn found(alloc: Global, deck: &Deck, names: &[&str]) -> Result<String, Fail> {
+    let mut text = String::new(alloc);
+    for word in names {
+        let name = name(alloc, word)?;
+        let node = deck.node_place(&name);
+        let element = deck.place(&name);
+        let volts = deck.initial(&name);
+        let amps = deck.part(&name).map(first_amps);
+        write!(text, "{word} {node:?} {element:?} {volts:?} {amps:?};")?;
+    }
+    Ok(text)
+}
+
+#[test]
+fn finds_names(rt: HostRuntime) -> Result<(), Fail> {
+    for (cards, name, want) in NAMES {
+        let deck = Deck::of(rt.alloc(), parts(rt.alloc(), cards)?)?;
+        assert_eq!(rt; found(rt.alloc(), &deck, &[*name])?.as_str(), *want);
     }
     Ok(())
 }
 
-/// A capacitor with its second end at `n`.
-fn capacitor(alloc: Global, name: Name, farads: i64) -> Result<Element, AllocError> {
-    Ok(Element::Capacitor {
-        name,
-        plus: Name::of(alloc, b"0")?,
-        minus: Name::of(alloc, b"n")?,
-        farads,
-    })
-}
-
-/// A source of 5 V that drives its second node.
-fn source(alloc: Global) -> Result<Element, AllocError> {
-    Ok(Element::Source {
-        name: Name::of(alloc, b"v1")?,
-        plus: Name::of(alloc, b"gnd")?,
-        minus: Name::of(alloc, b"a")?,
-        wave: Wave::dc(alloc, 5_000_000)?,
-    })
-}
-
-/// That source, and two capacitors at `n`, of which the second has this name.
-fn parts(alloc: Global, name: Name) -> Result<DeckParts, AllocError> {
-    let first = capacitor(alloc, Name::of(alloc, b"c1")?, 300)?;
-    let second = capacitor(alloc, name, 40)?;
-    Ok(DeckParts {
-        title: Title::of(Vec::new(alloc)),
-        stop: 7,
-        uic: false,
-        grain: 2,
-        initial: vec![in alloc; (Name::of(alloc, b"n")?, -3)]?,
-        elements: vec![in alloc; source(alloc)?, first, second]?,
-    })
+/// What stands at the nodes of a deck, in their order, behind what it says of itself.
+fn said(alloc: Global, deck: &Deck) -> Result<String, Fail> {
+    let mut text = String::new(alloc);
+    let title = deck.title().bytes().len();
+    let stop = deck.stop();
+    let grain = deck.grain();
+    let uic = deck.uic();
+    let count = deck.len();
+    write!(text, "{title} {stop} {grain} {uic} {count};")?;
+    for i in 0..deck.node_count() {
+        let node = deck.node(i);
+        let capacity = deck.capacity(i);
+        let volts = deck.initial_volts(i);
+        write!(text, "{node} {capacity} {volts}")?;
+        if let Some((wave, turned)) = deck.drive(i) {
+            let points = wave.len();
+            write!(text, " {points} {turned}")?;
+        }
+        text.push(';')?;
+    }
+    Ok(text)
 }
 
 #[test]
-fn takes_valid_parts(rt: HostRuntime) -> Result<(), Fail> {
-    let same = Deck::if_valid(rt.alloc(), parts(rt.alloc(), Name::of(rt.alloc(), b"c1")?)?)?;
-    assert!(rt; same.is_none());
-    match Deck::if_valid(rt.alloc(), parts(rt.alloc(), Name::of(rt.alloc(), b"c2")?)?)? {
-        None => assert!(rt; false, "no deck"),
-        Some(deck) => {
-            assert_eq!(rt; deck.node_count(), 2);
-            assert_eq!(rt; (deck.capacity(1), deck.initial_volts(1)), (340, -3));
-            match deck.drive(0) {
-                None => assert!(rt; false, "not driven"),
-                Some((_, turned)) => assert!(rt; turned),
-            }
-        }
+fn says_what_the_parts_say(rt: HostRuntime) -> Result<(), Fail> {
+    for (cards, want) in SAID {
+        let deck = Deck::of(rt.alloc(), parts(rt.alloc(), cards)?)?;
+        assert_eq!(rt; said(rt.alloc(), &deck)?.as_str(), *want);
     }
     Ok(())
 }

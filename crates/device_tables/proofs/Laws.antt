@@ -4,7 +4,7 @@ use Rattle.std.specs.List.{range_with_len, slice_get, prefix_len, list_all}
 use Rattle.std.specs.Int.{int_div_euclid}
 use Rattle.std.proofs.lemmas.Int.{ints, unsigned_abs-mul}
 use Rattle.std.proofs.lemmas.Nat.{mul-le}
-use Rattle.std.proofs.lemmas.Bool.{and_from, le-leb, both_ways, false≢true}
+use Rattle.std.proofs.lemmas.Bool.{and_from, and_parts, le-leb, leb-true, both_ways, false≢true}
 use Rattle.std.proofs.lemmas.Bool.Decides.{leb_tells}
 use Rattle.std.proofs.lemmas.List.Sums.{sum_by-le-sum_by, count_by-le-length, prefix_len_passes, prefix_len_stops, prefix_len-le-length}
 use Rattle.std.proofs.lemmas.List.FromFn.{length-map-range_with_len}
@@ -14,7 +14,10 @@ use Rattle.semantics.specs.declared.fraction.Fraction.{Fraction}
 use Rattle.semantics.specs.Grid.{cell, threshold, uniform}
 use Rattle.semantics.specs.Valid.{some_grain, small_volts, rising, is_grid}
 use Rattle.device_tables.specs.Ends.{threshold_below, LiesIn}
-use Rattle.device_tables.proofs.Counts.{count_front, int_le-floor, front_of_rising, times_times, IsGrain, grain_tested}
+use Rattle.device_tables.specs.Kept.{thresholds_of, is_kept}
+use Rattle.device_tables.specs.declared.grid.Thresholds.{Thresholds}
+use Rattle.device_tables.specs.declared.grid.Thresholds.TheVariants.{Uniform, Listed}
+use Rattle.device_tables.proofs.Counts.{count_front, int_le-floor, front_of_rising, times_times, IsGrain, grain_tested, grid_tested}
 
 -- ---- a uniform grid by place
 
@@ -71,6 +74,39 @@ uniform_is_grid grain half g few =
     and_from (leb (length (uniform grain half)) 256) (list_all small_volts (uniform grain half) && rising (uniform grain half))
     (le-leb (length (uniform grain half)) 256 (omega (arith, uniform_length grain half)))
     (and_from (list_all small_volts (uniform grain half)) (rising (uniform grain half)) (uniform_small grain half facts few) (uniform_rises grain half (omega (arith, facts.even, facts.low))))
+
+-- ---- what a grid keeps
+
+-- thresholds rise
+pub kept_rises : (kept : Thresholds) → IsTrue (is_kept kept) → rising (thresholds_of kept) ≡ true
+kept_rises (Uniform grain half) t =
+    let facts = grain_tested grain (and_parts (some_grain grain) (leb 1 half && leb half 4096) t).0 in
+    uniform_rises grain half (omega (arith, facts.even, facts.low))
+kept_rises (Listed thresholds) t = (grid_tested thresholds.items t).rises
+
+small_at : (zs : List ℤ) (i : ℕ) (θ : ℤ) → list_all small_volts zs ≡ true → slice_get zs i ≡ Some θ → unsigned_abs θ ≤ 5 * 10 ^ 9
+small_at [] i θ s e = cc
+small_at (z ∷ zs) zero θ s e =
+    let here = leb-true (unsigned_abs z) (10 ^ 9) (and_parts (small_volts z) (list_all small_volts zs) s).0 in
+    let same : z ≡ θ = cc in
+    rw (← same) (omega (arith, here))
+small_at (z ∷ zs) (suc i) θ s e = small_at zs i θ (and_parts (small_volts z) (list_all small_volts zs) s).1 e
+
+threshold_size : (grain half i : ℕ) → IsGrain grain → half ≤ 4096 → i < 2 * half → unsigned_abs (threshold grain half i) ≤ 5 * 10 ^ 9
+threshold_size grain half i facts few h =
+    rw (unsigned_abs-mul (pos (2 * i + 1) -ℤ pos (2 * half)) (pos (grain / 2)))
+    (omega (arith, mul-le (unsigned_abs (pos (2 * i + 1) -ℤ pos (2 * half))) (grain / 2) 8192 500000 (omega (arith, ints, abs_is (pos (2 * i + 1) -ℤ pos (2 * half)), h, few)) (omega (arith, facts.even, facts.high))))
+
+-- no threshold is over 5,000 V in size
+pub kept_small : (kept : Thresholds) (i : ℕ) (θ : ℤ) → IsTrue (is_kept kept) → i < length (thresholds_of kept) → slice_get (thresholds_of kept) i ≡ Some θ → unsigned_abs θ ≤ 5 * 10 ^ 9
+kept_small (Uniform grain half) i θ t h e =
+    let parts = and_parts (some_grain grain) (leb 1 half && leb half 4096) t in
+    let few = leb-true half 4096 (and_parts (leb 1 half) (leb half 4096) parts.1).1 in
+    let inside : i < 2 * half = omega (arith, h, uniform_length grain half) in
+    let at : Some (threshold grain half i) ≡ Some θ = sym (uniform_at grain half i inside) ∙ e in
+    let same : threshold grain half i ≡ θ = cc in
+    rw (← same) (threshold_size grain half i (grain_tested grain parts.0) few inside)
+kept_small (Listed thresholds) i θ t h e = small_at thresholds.items i θ (grid_tested thresholds.items t).small e
 
 -- ---- the cell of a voltage
 

@@ -1,4 +1,4 @@
-ghost use Rattle.std.specs.Prelude.{◌≡◌, pos, ◌≤◌, ◌<◌, ◌+◌, ◌*◌, ◌/◌, ◌^◌, ◌+ℤ◌, ◌≤ℤ◌, ◌↔◌, unsigned_abs, length, IsTrue, IfOk, IsOk};
+ghost use Rattle.std.specs.Prelude.{◌≡◌, pos, ◌≤◌, ◌<◌, ◌+◌, ◌*◌, ◌/◌, ◌^◌, ◌+ℤ◌, ◌≤ℤ◌, ◌↔◌, unsigned_abs, length, IsTrue, IfSome, IfOk, IsOk};
 ghost use Rattle.std.specs.Int.{int_div_euclid};
 ghost use Rattle.std.specs.List.{slice_get};
 ghost use Rattle.std.specs.Result.{result_err};
@@ -89,7 +89,9 @@ impl Grid {
     /// The threshold in µV at the lower end of a cell, `None` for the first cell.
     pub fn below(&self, cell: u32) -> Option<i64>
         requires { cell ≤ length self.now }
-        ensures { result ≡ threshold_below self.now cell }
+        ensures end { result ≡ threshold_below self.now cell }
+        ensures rising { IfSome result (λ _. IsTrue (rising self.now)) }
+        ensures size { IfSome result (λ θ. unsigned_abs θ ≤ 5 * 10 ^ 9) }
     {
         if cell == 0 {
             return None;
@@ -100,7 +102,9 @@ impl Grid {
     /// The threshold in µV at the upper end of a cell, `None` for the last cell.
     pub fn above(&self, cell: u32) -> Option<i64>
         requires { cell ≤ length self.now }
-        ensures { result ≡ threshold_above self.now cell }
+        ensures end { result ≡ threshold_above self.now cell }
+        ensures rising { IfSome result (λ _. IsTrue (rising self.now)) }
+        ensures size { IfSome result (λ θ. unsigned_abs θ ≤ 5 * 10 ^ 9) }
     {
         if cell == self.len() {
             return None;
@@ -124,7 +128,9 @@ impl Grid {
     #[tactic(auto, using(crate::proofs::Laws::uniform_length, crate::proofs::Laws::uniform_at))]
     fn threshold(&self, place: u32) -> i64
         requires { place < length self.now }
-        ensures { slice_get self.now place ≡ Some result }
+        ensures value { slice_get self.now place ≡ Some result }
+        ensures rising { IsTrue (rising self.now) }
+        ensures size { unsigned_abs result ≤ 5 * 10 ^ 9 }
     {
         match &self.thresholds {
             Thresholds::Uniform { grain, half } => uniform_threshold(*grain, *half, place),

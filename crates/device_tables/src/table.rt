@@ -90,4 +90,13 @@ impl Table {
         let Entries::Listed { drain, .. } = &self.entries;
         drain
     }
+
+    /// The currents in pA, by gate cell and within it by drain cell, each at most 1 A in size.
+    pub fn amps(&self) -> &[i64]
+        ensures amps { result.now ≡ self.now.amps }
+        ensures valid { IsTrue (is_part (part.Listed self.now.gate self.now.drain self.now.amps)) }
+    {
+        let Entries::Listed { amps, .. } = &self.entries;
+        amps
+    }
 }

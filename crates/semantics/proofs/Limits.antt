@@ -21,7 +21,8 @@ use Rattle.semantics.specs.Part.{Part, Level, Listed, middle, square_law, capped
 use Rattle.semantics.specs.Source.{pair_at, pair_from, signed, slope_at, slope_from, between, level}
 use Rattle.semantics.specs.Device.{cells, current, current_in, resistor_current}
 use Rattle.semantics.specs.Run.{into, flow, node_current, charge, voltages, run}
-use Rattle.semantics.specs.Valid.{is_valid, has_limits, has_elements, has_nodes, in_limits, is_source, is_part, is_grid, is_held, short_time, small_volts, rising_times, has_part}
+use Rattle.semantics.specs.Points.{rising_times}
+use Rattle.semantics.specs.Valid.{is_valid, has_limits, has_elements, has_nodes, in_limits, is_source, is_part, is_grid, is_held, short_time, small_volts, has_part}
 
 -- what a valid deck has, part by part
 pub record Limits (d : DeckValue) : Type 0 where

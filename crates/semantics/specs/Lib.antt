@@ -7,5 +7,6 @@ pub mod Device
 pub mod Run
 pub mod Wave
 pub mod Event
+pub mod Points
 pub mod Valid
 pub mod Text

@@ -1,11 +1,12 @@
 -- What a valid deck is: no name stands twice, every node is driven once or has what a free node needs, and each value is in its limit.
-use Rattle.std.specs.Prelude.{ℕ, ◌+◌, ◌*◌, ◌%◌, ◌^◌, ℤ, pos, unsigned_abs, int_le, int_lt, nat_le, nat_lt, Bool, true, not, ◌&&◌, ◌||◌, ◌==◌, if◌then◌else◌, List, [], ◌∷◌, length, map, filter}
+use Rattle.std.specs.Prelude.{ℕ, ◌+◌, ◌*◌, ◌%◌, ◌^◌, ℤ, pos, unsigned_abs, int_le, int_lt, nat_le, Bool, true, not, ◌&&◌, ◌||◌, ◌==◌, if◌then◌else◌, List, [], ◌∷◌, length, map, filter}
 use Rattle.std.specs.List.{list_all, list_any, flat_map}
 use Rattle.std.specs.Option.{is_some}
 use Rattle.std.specs.Str.{bytes_eq}
 use Rattle.semantics.specs.declared.element.Element.{Element}
 use Rattle.semantics.specs.declared.element.Element.TheVariants.{Resistor, Capacitor, Source, Mos}
 use Rattle.semantics.specs.Ground.{is_ground}
+use Rattle.semantics.specs.Points.{rising_times}
 use Rattle.semantics.specs.Part.{Part, Level, Listed}
 use Rattle.semantics.specs.Deck.{DeckValue, nodes, free_nodes, total_farads, terminals, name_of, look_up}
 
@@ -27,6 +28,18 @@ some_farads farads = int_le (pos 0) farads && int_le farads (pos (10 ^ 12))
 abbrev pub some_metres : ℤ → Bool
 some_metres metres = int_le (pos 1) metres && int_le metres (pos (10 ^ 9))
 
+-- a threshold voltage of a model: at most 100 V in size
+abbrev pub small_vto : ℤ → Bool
+small_vto vto = nat_le (unsigned_abs vto) (10 ^ 8)
+
+-- a gain of a model: 0 to 100 mA per square volt
+abbrev pub some_gain : ℤ → Bool
+some_gain kp = int_le (pos 0) kp && int_le kp (pos (10 ^ 11))
+
+-- a current of a table: at most 1 A in size
+abbrev pub small_amps : ℤ → Bool
+small_amps amps = nat_le (unsigned_abs amps) (10 ^ 12)
+
 -- at most 10 ms
 abbrev pub short_time : ℕ → Bool
 short_time tick = nat_le tick (10 ^ 10)
@@ -34,12 +47,6 @@ short_time tick = nat_le tick (10 ^ 10)
 -- an even number of microvolts from 2 µV to 1 V
 abbrev pub some_grain : ℕ → Bool
 some_grain grain = (grain % 2 == 0) && (nat_le 2 grain && nat_le grain (10 ^ 6))
-
--- each tick is above the one before it
-abbrev pub rising_times : List (ℕ × ℤ) → Bool
-rising_times [] = true
-rising_times (p ∷ []) = true
-rising_times (p ∷ q ∷ ps) = nat_lt p.0 q.0 && rising_times (q ∷ ps)
 
 -- a source has a point, its ticks rise, and each point is in its limits
 abbrev pub is_source : List (ℕ × ℤ) → Bool
@@ -62,9 +69,9 @@ abbrev pub is_grid : List ℤ → Bool
 is_grid thresholds = nat_le (length thresholds) 256 && (list_all small_volts thresholds && rising thresholds)
 
 abbrev pub is_part : Part → Bool
-is_part (Level channel vto kp) = nat_le (unsigned_abs vto) (10 ^ 8) && (int_le (pos 0) kp && int_le kp (pos (10 ^ 11)))
+is_part (Level channel vto kp) = small_vto vto && some_gain kp
 is_part (Listed gate drain amps) =
-    is_grid gate && (is_grid drain && ((length amps == (length gate + 1) * (length drain + 1)) && list_all (λ z. nat_le (unsigned_abs z) (10 ^ 12)) amps))
+    is_grid gate && (is_grid drain && ((length amps == (length gate + 1) * (length drain + 1)) && list_all small_amps amps))
 
 -- ---- names and nodes
 

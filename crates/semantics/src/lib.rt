@@ -17,4 +17,4 @@ pub use fraction::Fraction;
 pub use line::Line;
 pub use name::Name;
 pub use title::Title;
-pub use wave::Wave;
+pub use wave::{Wave, WaveRefusal};

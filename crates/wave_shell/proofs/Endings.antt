@@ -1,12 +1,14 @@
 -- From how an answer ends to the clauses of the top call.
-use Rattle.std.proofs.Common.{◌≡◌, ℕ, ◌≤◌, ◌<◌, Bool, true, false, cond, List, [], Option, Some, None, refl, sym, ◌∙◌, ap, inl, inr, ⊎_elim, subst}
+use Rattle.std.proofs.Common.{◌≡◌, ℕ, ◌≤◌, ◌<◌, Bool, true, false, cond, List, [], Option, Some, None, refl, sym, ◌∙◌, ap, inl, inr, ⊎_elim, subst, arith}
 use Rattle.std.specs.Prelude.{◌⊎◌, IfSome, length, nat_lt, codes}
 use Rattle.std.specs.Option.{option_map}
 use Rattle.std.specs.Io.KnownBytes.{Appends}
 use Rattle.std.proofs.KnownBytes.{Appends-nil}
-use Rattle.std.proofs.lemmas.Bool.{le-ltb, lt-ltb}
+use Rattle.std.specs.Str.{bytes_eq}
+use Rattle.std.proofs.lemmas.Bool.{le-ltb, lt-ltb, false≢true}
+use Rattle.std.proofs.lemmas.Slice.Eq.{bytes_eq-Decides}
 use Rattle.outside.specs.Causes.{Rose}
-use Rattle.outside.specs.Content.{AppendsFront}
+use Rattle.outside.specs.Content.{AppendsFront, SameElsewhere}
 use Rattle.outside.specs.declared.reading.TheConstants.{READ_LIMIT}
 use Rattle.semantics.specs.Deck.{DeckValue}
 use Rattle.semantics.specs.Text.{default_output}
@@ -164,3 +166,13 @@ deck_may bytes = said_of (deck_answer bytes).0 (of_deck bytes)
 
 pub deck_fits : (bytes : List ℕ) (words : List (List ℕ)) → (deck_answer bytes).0 ≡ status.Words → deck_name words ≡ None
 deck_fits bytes words e = absurd (no_words (deck_answer bytes).0 (of_deck bytes) e)
+
+-- ---- what the call leaves
+
+-- where no count falls at one name and the others stay, none falls
+pub none_falls : (name : List ℕ) (f g : List ℕ → ℕ) → f name ≤ g name → SameElsewhere name f g → (other : List ℕ) → f other ≤ g other
+none_falls name f g here elsewhere other = by (bytes_eq other name) refl
+  where
+    by : (b : Bool) → bytes_eq other name ≡ b → f other ≤ g other
+    by true e = subst (λ n. f n ≤ g n) (sym ((bytes_eq-Decides other name).0 e)) here
+    by false e = omega (arith, elsewhere other (λ same. absurd (false≢true (sym e ∙ (bytes_eq-Decides other name).1 same))))

@@ -1,8 +1,8 @@
-ghost use Rattle.std.specs.Prelude.{◌≡◌, ◌≤◌, ◌⊎◌, None, Some, map, length, option_map, string_bytes, Contains, IfSome, IfOk, []};
+ghost use Rattle.std.specs.Prelude.{◌≡◌, ◌≤◌, ◌⊎◌, ℕ, List, None, Some, map, length, option_map, string_bytes, Contains, IfSome, IfOk, []};
 ghost use Rattle.semantics.specs.Text.{default_output};
 ghost use Rattle.std.specs.Io.KnownBytes.{Appends};
 ghost use Rattle.outside.specs.Causes.{Rose};
-ghost use Rattle.outside.specs.Content.{AppendsFront};
+ghost use Rattle.outside.specs.Content.{AppendsFront, SameBytes};
 ghost use Rattle.outside.specs.declared.reading.TheConstants.{READ_LIMIT};
 ghost use Rattle.wave_shell.specs.Answer.{answer, deck_answer, deck_name, is_name, said, Ends, Gives, IsFault, NameRose};
 
@@ -38,7 +38,8 @@ fn deck_name(words: &[String]) -> Option<&str>
 
 /// Writes a text, and answers the status with which it goes.
 fn say<K: Sink>(sink: &mut K, status: Status, text: &[u8]) -> Status
-    ensures { Ends (said status text.now) result (K.written sink.old) (K.written sink.new) (K.faults sink.old) (K.faults sink.new) }
+    ensures ends { Ends (said status text.now) result (K.written sink.old) (K.written sink.new) (K.faults sink.old) (K.faults sink.new) }
+    ensures later { K.faults sink.old ≤ K.faults sink.new }
 {
     match write_all(sink, text) {
         Ok(()) => status,
@@ -57,7 +58,8 @@ fn waves_text(alloc: Global, deck: &Deck) -> Result<String, AllocError>
 /// Answers the bytes of a deck that is not too long.
 fn answer_deck<K: Sink>(alloc: Global, bytes: &[u8], sink: &mut K) -> Status
     requires { length bytes.now ≤ READ_LIMIT }
-    ensures { Ends (deck_answer bytes.now) result (K.written sink.old) (K.written sink.new) (K.faults sink.old) (K.faults sink.new) }
+    ensures ends { Ends (deck_answer bytes.now) result (K.written sink.old) (K.written sink.new) (K.faults sink.old) (K.faults sink.new) }
+    ensures later { K.faults sink.old ≤ K.faults sink.new }
 {
     match read_first(alloc, bytes) {
         Ok(deck) => match waves_text(alloc, &deck) {
@@ -78,6 +80,7 @@ fn answer_deck<K: Sink>(alloc: Global, bytes: &[u8], sink: &mut K) -> Status
 /// not begin with `-`, or is `-` alone; else the answer is `Words`. It is `Deck` where the deck has
 /// more than 16,777,216 bytes, is not in the form that is read so far, or is not valid. With `Ok`,
 /// `Words` and `Deck` the whole text is written, and with `Read` nothing.
+#[tactic(auto, using(crate::proofs::Endings::none_falls))]
 pub fn run_alone<S: Shelf, K: Sink>(
     alloc: Global,
     words: &[String],
@@ -104,6 +107,12 @@ pub fn run_alone<S: Shelf, K: Sink>(
     ensures complete { (NameRose (S.faults shelf.old) (S.faults shelf.new) (deck_name (map string_bytes words.now)) → ⊥)
         → (Rose (K.faults sink.old) (K.faults sink.new) → ⊥)
         → (result ≡ Status.Memory) ⊎ IfSome (answer (S.bytes shelf.old) (map string_bytes words.now)) (λ a. Gives a result (K.written sink.old) (K.written sink.new)) }
+
+    // What the call leaves: the shelf's names and bytes stay, and no count falls.
+    ensures names { S.names shelf.new ≡ S.names shelf.old }
+    ensures bytes { SameBytes (S.bytes shelf.old) (S.bytes shelf.new) }
+    ensures shelf_later { (name : List ℕ) → S.faults shelf.old name ≤ S.faults shelf.new name }
+    ensures sink_later { K.faults sink.old ≤ K.faults sink.new }
 {
     let Some(name) = deck_name(words) else {
         return say(sink, Status::Words, WORDS);

@@ -1,9 +1,9 @@
-use Rattle.std.proofs.Common.{◌≡◌, [], take, map}
-use Rattle.deck_cards.specs.Facts.{known}
+use Rattle.std.proofs.Common.{◌≡◌, ℕ, List, ◌*◌, ◌^◌, ◌≤◌, unsigned_abs, take, map}
+use Rattle.deck_cards.specs.Facts.{known, farads_of}
 use Rattle.deck_cards.proofs.nodes.facts_of.Given as goal
 
 abbrev pub invariant-loop-place : goal.invariant-loop-place
-invariant-loop-place l = l.facts.items ≡ map (known (take l.place l.parts.elements) []) l.names.keys
-
-abbrev pub invariant-loop-place-2 : goal.invariant-loop-place-2
-invariant-loop-place-2 l = l.facts.items ≡ map (known l.parts.elements (take l.place l.parts.initial)) l.names.keys
+invariant-loop-place l = record {
+  facts : l.facts.items ≡ map (known (take l.place l.cards.elements.items) l.cards.initial.entries) l.names.keys;
+  small : (n : List ℕ) → unsigned_abs (farads_of n (take l.place l.cards.elements.items)) ≤ 2 ^ 63 * l.place;
+}

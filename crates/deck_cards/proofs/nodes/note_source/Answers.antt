@@ -1,6 +1,6 @@
 use Rattle.std.proofs.Common.{ℕ, Option, Some, get_or, ap}
 use Rattle.std.specs.Option.{option_or}
-use Rattle.deck_cards.specs.Facts.{nothing}
+use Rattle.deck_cards.proofs.Known.{nothing}
 use Rattle.deck_cards.proofs.Named.{changed, unchanged}
 use Rattle.deck_cards.proofs.nodes.note_source.Goals as goal
 

@@ -1,6 +1,7 @@
-use Rattle.std.proofs.Common.{ap, false, [], ◌∷◌, ◌∙◌}
+use Rattle.std.proofs.Common.{ap, false, map, [], ◌∷◌, ◌∙◌}
 use Rattle.semantics.specs.declared.element.Element.TheVariants.{Resistor, Capacitor, Source}
 use Rattle.deck_cards.specs.RowForm.{row_deck}
+use Rattle.deck_cards.specs.Part.{part_of}
 use Rattle.deck_cards.proofs.row.parts_with.Goals as goal
 
 pub returns : goal.returns
@@ -15,7 +16,7 @@ returns c =
       stop = c.requires.stop i;
       uic = false;
       grain = c.requires.grain i;
-      parts = [];
+      parts = map (λ q. (q.0, part_of q.1)) (c.new.ensures.items i);
       initial = (c.in_ok-initial.ensures ∙ ap (λ v. (row.initial.0, v) ∷ []) c.requires.start) i;
       elements = (c.in_ok-vec.ensures.items ∙ (λ j. source j ∷ resistor j ∷ capacitor j ∷ [])) i;
     }

@@ -11,5 +11,5 @@ returns c =
     let d = c.args.self.now in
     let t = c.self.inside.table in
     let r = c.unwrap_or.result in
-    at_node d t.names.keys t.facts.items c.args.i c.index.result.now (λ n. to_z w64 (of_z w64 r) ≡ initial_of d n) (subst (λ p. IsTable p t.names.keys t.facts.items) c.self.view_is c.self.invariant.1)
+    at_node d t.names.keys t.facts.items c.args.i c.index.result.now (λ n. to_z w64 (of_z w64 r) ≡ initial_of d n) (subst (λ p. IsTable p t.names.keys t.facts.items) c.self.view_is c.self.invariant.table)
     c.requires c.index.ensures (λ n there is. to_z-of_z w64 r (search rules) ∙ c.unwrap_or.ensures ∙ ap (λ f. unwrap_or f.initial (pos 0)) is)

@@ -12,7 +12,6 @@ facts_of-requires-clause-differ c = ap differ c.in_ok-names.ensures ∙ differ-n
 pub returns : goal.returns
 unfolding nodes
 returns c =
-    let d = c.args.parts.now in
-    let es = c.deref.ensures.value ∙ ap (λ p. p.elements) c.parts.view_is in
-    let names = c.in_ok-names.ensures ∙ ap (λ l. fold with_node [] (flat_map ends_of l)) es in
-    record { names = names; facts = c.in_ok-facts.ensures ∙ ap (map (known d.elements d.initial)) names }
+    let names = c.in_ok-names.ensures ∙ ap (λ l. fold with_node [] (flat_map ends_of l)) c.deref.ensures.value in
+    let cards = c.args.cards.now in
+    record { names = names; facts = c.in_ok-facts.ensures ∙ ap (map (known cards.elements.items cards.initial.entries)) names }

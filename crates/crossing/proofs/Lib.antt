@@ -1,0 +1,4 @@
+pub mod Casts
+pub mod Straight
+pub mod Cells
+pub mod Ticks

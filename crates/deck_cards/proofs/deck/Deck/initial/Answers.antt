@@ -1,0 +1,9 @@
+use Rattle.std.proofs.Common.{◌∙◌, ap}
+use Rattle.semantics.specs.Deck.{look_up}
+use Rattle.deck_cards.proofs.Once.{look_up_is}
+use Rattle.deck_cards.proofs.deck.Deck.initial.Goals as goal
+
+pub returns : goal.returns
+returns c =
+    let n = c.args.node.now in
+    c.copied.ensures ∙ c.get.ensures.value ∙ look_up_is n c.self.inside.cards.initial.entries ∙ ap (λ d. look_up n d.initial) c.self.view_is

@@ -1,0 +1,52 @@
+//! How many elements and nodes a deck may have.
+
+ghost use Rattle.std.specs.Prelude.{◌≡◌, [], length, fold};
+ghost use Rattle.std.specs.List.{flat_map};
+ghost use Rattle.semantics.specs.Deck.{ends_of, with_node};
+ghost use Rattle.deck_cards.specs.Answers.{Answers};
+ghost use Rattle.deck_cards.specs.Cards.{deck_of};
+ghost use Rattle.deck_cards.specs.Causes.{many_elements, many_nodes, many_nodes_from};
+
+use crate::edit_refusal::EditRefusal;
+use crate::settled::Settled;
+use crate::which::Which;
+use crate::{elements, nodes};
+use indexmap::IndexSet;
+use semantics::Element;
+use std::alloc::Global;
+
+/// How many elements a deck may have, and how many nodes.
+const MOST: usize = 100_000;
+
+/// Refuses the element that is one too many.
+#[tactic(auto, unfolding(crate::specs::Causes::many_elements))]
+pub fn check_elements(cards: &Settled) -> Result<(), EditRefusal>
+    ensures { Answers result (many_elements (deck_of cards.now)) }
+{
+    match cards.elements.get(MOST) {
+        None => Ok(()),
+        Some(element) => {
+            let name = elements::name_of(element).copy()?;
+            Err(EditRefusal::Limit(Which::Elements, name))
+        }
+    }
+}
+
+/// Refuses the first element that names a node that is one too many, in a deck with this number of nodes.
+pub fn check_nodes(alloc: Global, count: usize, cards: &Settled) -> Result<(), EditRefusal>
+    requires { count ≡ length (fold with_node [] (flat_map ends_of cards.now.elements.items)) }
+    ensures { Answers result (many_nodes (deck_of cards.now)) }
+{
+    if count <= MOST {
+        return Ok(());
+    }
+    let mut names = IndexSet::new(alloc);
+    for element in &cards.elements {
+        nodes::add_ends(&mut names, element)?;
+        if names.len() > MOST {
+            let name = elements::name_of(element).copy()?;
+            return Err(EditRefusal::Limit(Which::Nodes, name));
+        }
+    }
+    Ok(())
+}

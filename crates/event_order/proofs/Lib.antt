@@ -1,0 +1,9 @@
+pub mod Tables
+pub mod Ordered
+pub mod Rising
+pub mod MarkBits
+pub mod BucketLists
+pub mod Placed
+pub mod SpotTicks
+pub mod Nearby
+pub mod Joined
