@@ -7,6 +7,5 @@ pub mod Known
 pub mod Meaning
 pub mod Named
 pub mod Once
-pub mod Reading
 pub mod Within
 pub mod Validity

@@ -16,7 +16,6 @@ use Rattle.semantics.proofs.Limits.{limits}
 use Rattle.deck_cards.specs.declared.edit_refusal.EditRefusal.TheVariants.{Uncapped, NoInitial, Limit}
 use Rattle.deck_cards.specs.declared.which.Which.TheVariants.{Volts, Seconds, Grain, Elements, NodeFarads, Terminals}
 use Rattle.deck_cards.specs.Causes.{limit, adding_cause, uncapped, no_initial, value_limit, many_elements, many_nodes, node_farads, many_terminals, part_limit, element_limit, deck_cause}
-use Rattle.deck_cards.specs.Checked.{checked}
 use Rattle.deck_cards.proofs.Added.{can_add, added}
 use Rattle.deck_cards.proofs.Counting.{few_none, none_few}
 use Rattle.deck_cards.proofs.Firsts.{none-or, none_that, that_none, none_map}
@@ -194,17 +193,3 @@ clear_valid d clear parts_differ parts initial_differ elements =
 -- both ways at once: the cause is none exactly where the deck is valid
 pub valid_none : (d : DeckValue) → is_valid d ≡ true → deck_cause d ≡ None
 valid_none d valid = clear_none d (valid_clear d valid)
-
--- ---- a deck, where it is valid
-
-pub checked_valid : (d e : DeckValue) → d ≡ e → is_valid d ≡ true → Some d ≡ checked e
-unfolding checked
-checked_valid d e same h = λ i. if sym (ap is_valid (sym same) ∙ h) i then Some (same i) else None
-
-pub checked_not : (d : DeckValue) → (is_valid d ≡ true → ⊥) → None ≡ checked d
-unfolding checked
-checked_not d h = by (is_valid d) refl
-  where
-    by : (b : Bool) → is_valid d ≡ b → None ≡ (if b then Some d else None)
-    by true e = absurd (h e)
-    by false e = refl

@@ -1,10 +1,6 @@
 pub mod Answers
-pub mod Checked
 pub mod Facts
 pub mod Part
 pub mod Causes
 pub mod Cards
 pub mod Settled
-pub mod Refusal
-pub mod RowForm
-pub mod RowValues

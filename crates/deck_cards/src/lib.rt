@@ -1,4 +1,4 @@
-//! A deck of cards: a valid deck by its type, and the reader of a deck text.
+//! A deck of cards: a valid deck by its type, and why parts make none.
 #![tactic(auto)]
 
 mod adding;
@@ -11,21 +11,14 @@ mod limits;
 mod nodes;
 mod part;
 mod parts;
-mod read;
-mod refusal;
-mod row;
 mod settled;
-mod value;
 mod values;
 mod which;
-mod words;
 
 pub use deck::Deck;
 pub use edit_refusal::EditRefusal;
 pub use part::Part;
 pub use parts::DeckParts;
-pub use read::read_first;
-pub use refusal::{DeckRefusal, DeckWhy};
 pub use semantics::{Channel, Element, Name, Title, Wave, WaveRefusal};
 pub use which::Which;
 

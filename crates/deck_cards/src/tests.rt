@@ -1,4 +1,4 @@
-use crate::{Deck, DeckParts, DeckWhy, Element, Name, Part, Title, Wave, read_first};
+use crate::{Deck, DeckParts, Element, Name, Part, Title, Wave};
 use Card::{Capacitor, Grain, Initial, Mos, Resistor, Source, Stop, Table as TableCard, Uic};
 use device_tables::{Grid, Table};
 use std::alloc::{AllocError, Global};
@@ -258,71 +258,6 @@ const NAMES: &[(&[Card], &str, &str)] = &[
 /// Cards, and what a deck of them says of itself and of its nodes.
 const SAID: &[(&[Card], &str)] = &[(SWITCH, "0 7 2 false 5;a 0 0 1 true;d 33 -6;g 4 7;")];
 
-/// What may stand in the row deck in place of what it has.
-const TAKEN: &[(&str, &str)] = &[
-    ("rc\n", "* \u{e9} ; the title is not looked at\n"),
-    ("1k\n", "1000\n"),
-    ("b 0 1p", "b GND 1000f"),
-    ("V(b)=0", ", v ((b))=0,"),
-    ("\n.TRAN 1p", "\n\n  \n.TRAN 000000000000001p"),
-    (".END\n", ".END\nv2 what is here is not read"),
-    ("100m", "2u"),
-    ("100m", "1"),
-    ("1p 1n", "1p 10m"),
-    ("1p 1n", "1 0"),
-    ("b 0 1p", "b 0 1u"),
-];
-
-/// What may not.
-const REFUSED: &[(&str, &str)] = &[
-    ("rc\n", ""),
-    ("1k\n", "1k \u{e9}\n"),
-    ("1k\n", "1k ; ohms\n"),
-    ("1k\n", "1k $\n"),
-    ("R1", "* a comment\nR1"),
-    ("1k", "\n+ 1k"),
-    ("1k", "1meg"),
-    ("1k", "1.0k"),
-    ("1k", "-1k"),
-    ("1k", "k"),
-    ("1k", "0000000000001000"),
-    ("1k", "1u"),
-    ("1k", "0"),
-    ("1k", "999999999999999k"),
-    ("V1 a 0 1", "V1 a 0 1001"),
-    ("V1 a 0 1", "V1 a b 1"),
-    ("V1 a 0 1", "V1 0 gnd 1"),
-    ("V1 a 0 1", "V1 a 0 dc 1"),
-    ("R1", "C1"),
-    ("b 0 1p", "b 0 0"),
-    ("b 0 1p", "b 0 1001n"),
-    ("V(b)", "V(a)"),
-    ("V(b)", "I(b)"),
-    ("100m", "3u"),
-    ("100m", "1u"),
-    ("1p 1n", "1p"),
-    ("1p 1n", "1p 11m"),
-    ("1p 1n", "1p 1n uic"),
-    (".END", ".ENDS"),
-    (".END\n", ""),
-];
-
-/// The row deck with its first `old` put as `new`.
-fn with(alloc: Global, old: &str, new: &str) -> Result<Vec<u8>, AllocError> {
-    let row =
-        "rc\nV1 a 0 1\nR1 a b 1k\nC1 b 0 1p\n.IC V(b)=0\n.OPTIONS GRAIN=100m\n.TRAN 1p 1n\n.END\n";
-    let mut text = Vec::new(alloc);
-    match row.split_once(old) {
-        None => text.extend_from_slice(b"no such text")?,
-        Some((before, after)) => {
-            text.extend_from_slice(before.as_bytes())?;
-            text.extend_from_slice(new.as_bytes())?;
-            text.extend_from_slice(after.as_bytes())?;
-        }
-    }
-    Ok(text)
-}
-
 /// A name; `?` stands for a text that is none.
 fn name(alloc: Global, text: &str) -> Result<Name, AllocError> {
     if text.is_ascii() {
@@ -449,25 +384,6 @@ fn numbers_of_things(rt: HostRuntime) -> Result<(), Fail> {
     for (cards, count, cause) in COUNTS {
         let deck = with_resistors(rt.alloc(), cards, *count)?;
         assert_eq!(rt; told(rt.alloc(), deck)?.as_str(), *cause, "{count}");
-    }
-    Ok(())
-}
-
-#[test]
-fn reads_the_row_form(rt: HostRuntime) -> Result<(), Fail> {
-    for (old, new) in TAKEN {
-        let text = with(rt.alloc(), old, new)?;
-        assert!(rt; read_first(rt.alloc(), &text).is_ok(), "{old} as {new}");
-    }
-    for (old, new) in REFUSED {
-        let text = with(rt.alloc(), old, new)?;
-        match read_first(rt.alloc(), &text) {
-            Ok(_) => assert!(rt; false, "{old} as {new} is taken"),
-            Err(refusal) => assert!(rt;
-                refusal.line == 0 && refusal.why == DeckWhy::NotYet,
-                "{old} as {new}"
-            ),
-        }
     }
     Ok(())
 }

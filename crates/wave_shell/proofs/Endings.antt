@@ -1,9 +1,8 @@
 -- From how an answer ends to the clauses of the top call.
-use Rattle.std.proofs.Common.{◌≡◌, ℕ, ◌≤◌, ◌<◌, Bool, true, false, cond, List, [], Option, Some, None, refl, sym, ◌∙◌, ap, inl, inr, ⊎_elim, subst, arith}
+use Rattle.std.proofs.Common.{◌≡◌, ℕ, ◌≤◌, ◌<◌, Bool, true, false, cond, List, [], Option, Some, None, Result, Ok, Err, refl, sym, ◌∙◌, ap, inl, inr, ⊎_elim, subst, arith}
 use Rattle.std.specs.Prelude.{◌⊎◌, IfSome, length, nat_lt, codes}
 use Rattle.std.specs.Option.{option_map}
 use Rattle.std.specs.Io.KnownBytes.{Appends}
-use Rattle.std.proofs.KnownBytes.{Appends-nil}
 use Rattle.std.specs.Str.{bytes_eq}
 use Rattle.std.proofs.lemmas.Bool.{le-ltb, lt-ltb, false≢true}
 use Rattle.std.proofs.lemmas.Slice.Eq.{bytes_eq-Decides}
@@ -12,20 +11,21 @@ use Rattle.outside.specs.Content.{AppendsFront, SameElsewhere}
 use Rattle.outside.specs.declared.reading.TheConstants.{READ_LIMIT}
 use Rattle.semantics.specs.Deck.{DeckValue}
 use Rattle.semantics.specs.Text.{default_output}
-use Rattle.deck_cards.specs.RowForm.{first_deck}
-use Rattle.wave_shell.specs.Answer.{Answer, answer, deck_answer, deck_name, said, Ends, Gives, IsFault, NameRose}
+use Rattle.deck_reader.specs.declared.why.DeckRefusal.{DeckRefusal}
+use Rattle.deck_reader.specs.Reading.{deck_in}
+use Rattle.wave_shell.specs.Answer.{Answer, answer, deck_answer, deck_name, refusal_text, said, Ends, Gives, IsFault, NameRose}
 use Rattle.wave_shell.specs.declared.status.Status.{Status}
 use Rattle.wave_shell.specs.declared.status.Status.TheVariants as status
 
 -- ---- the answer to a deck
 
-pub is_deck : (bytes : List ℕ) (d : DeckValue) → length bytes ≤ READ_LIMIT → first_deck bytes ≡ Some d → deck_answer bytes ≡ said status.Ok (default_output d)
+pub is_deck : (bytes : List ℕ) (d : DeckValue) → length bytes ≤ READ_LIMIT → deck_in bytes ≡ Ok d → deck_answer bytes ≡ said status.Ok (default_output d)
 unfolding deck_answer
 is_deck bytes d short is = rw (le-ltb READ_LIMIT (length bytes) short) (rw is refl)
 
-pub not_first : (bytes : List ℕ) → length bytes ≤ READ_LIMIT → first_deck bytes ≡ None → deck_answer bytes ≡ said status.Deck (codes "deck 0 not in the first form\n")
+pub is_refused : (bytes : List ℕ) (r : DeckRefusal) → length bytes ≤ READ_LIMIT → deck_in bytes ≡ Err r → deck_answer bytes ≡ said status.Deck (refusal_text r)
 unfolding deck_answer
-not_first bytes short is = rw (le-ltb READ_LIMIT (length bytes) short) (rw is refl)
+is_refused bytes r short is = rw (le-ltb READ_LIMIT (length bytes) short) (rw is refl)
 
 pub too_long : (bytes : List ℕ) → READ_LIMIT < length bytes → deck_answer bytes ≡ said status.Deck (codes "deck 0 too long\n")
 unfolding deck_answer
@@ -53,12 +53,12 @@ IsOfDeck status.Write = ⊥
 
 pub of_deck : (bytes : List ℕ) → IsOfDeck (deck_answer bytes).0
 unfolding deck_answer
-of_deck bytes = by (nat_lt READ_LIMIT (length bytes)) (first_deck bytes)
+of_deck bytes = by (nat_lt READ_LIMIT (length bytes)) (deck_in bytes)
   where
-    by : (b : Bool) (o : Option DeckValue) → IsOfDeck (cond {A = Answer} b (said status.Deck (codes "deck 0 too long\n")) (elim o as (λ _. Answer) [ None ↦ said status.Deck (codes "deck 0 not in the first form\n") | Some d ↦ said status.Ok (default_output d) ])).0
+    by : (b : Bool) (o : Result DeckValue DeckRefusal) → IsOfDeck (cond {A = Answer} b (said status.Deck (codes "deck 0 too long\n")) (elim o as (λ _. Answer) [ Err r ↦ said status.Deck (refusal_text r) | Ok d ↦ said status.Ok (default_output d) ])).0
     by true o = tt
-    by false None = tt
-    by false (Some d) = tt
+    by false (Err r) = tt
+    by false (Ok d) = tt
 
 said_of : (s : Status) → IsOfDeck s → IsSaid s
 said_of status.Ok h = tt

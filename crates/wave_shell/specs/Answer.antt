@@ -1,6 +1,7 @@
 -- What the program answers: a status and a text, as a function of its words and of the bytes of the deck.
-use Rattle.std.specs.Prelude.{◌≡◌, ℕ, Bool, not, ◌||◌, nat_lt, nat_eq, if◌then◌else◌, List, [], ◌∷◌, length, Option, Some, None, codes, ◌⊎◌}
+use Rattle.std.specs.Prelude.{◌≡◌, ℕ, Bool, not, ◌||◌, nat_lt, nat_eq, if◌then◌else◌, List, [], ◌∷◌, ◌++◌, length, Option, Some, None, Ok, Err, codes, ◌⊎◌}
 use Rattle.std.specs.List.{starts_with}
+use Rattle.std.specs.Fmt.{decimal}
 use Rattle.std.specs.Option.{option_map}
 use Rattle.std.specs.Str.{bytes_eq}
 use Rattle.std.specs.Io.KnownBytes.{Appends}
@@ -8,7 +9,9 @@ use Rattle.outside.specs.Causes.{Rose}
 use Rattle.outside.specs.Content.{AppendsFront}
 use Rattle.outside.specs.declared.reading.TheConstants.{READ_LIMIT}
 use Rattle.semantics.specs.Text.{default_output}
-use Rattle.deck_cards.specs.RowForm.{first_deck}
+use Rattle.deck_reader.specs.declared.why.DeckRefusal.{DeckRefusal}
+use Rattle.deck_reader.specs.Reading.{deck_in}
+use Rattle.deck_reader.specs.Text.{cause_text}
 use Rattle.wave_shell.specs.declared.status.Status.{Status}
 use Rattle.wave_shell.specs.declared.status.Status.TheVariants as status
 
@@ -29,13 +32,17 @@ Answer = Status × List ℕ
 abbrev pub said : Status → List ℕ → Answer
 said s text = (s, text)
 
--- the answer to the bytes of a deck: its waves, or why there are none
+-- deck LINE CAUSE
+unfoldable pub refusal_text : DeckRefusal → List ℕ
+refusal_text r = codes "deck " ++ (decimal r.line ++ (32 ∷ (cause_text r.why ++ (10 ∷ []))))
+
+-- the answer to the bytes of a deck: its waves, or its first fault
 unfoldable pub deck_answer : List ℕ → Answer
 deck_answer bytes =
     if nat_lt READ_LIMIT (length bytes) then said status.Deck (codes "deck 0 too long\n")
-    else elim (first_deck bytes) [
-      | None ↦ said status.Deck (codes "deck 0 not in the first form\n")
-      | Some d ↦ said status.Ok (default_output d)
+    else elim (deck_in bytes) [
+      | Err refusal ↦ said status.Deck (refusal_text refusal)
+      | Ok d ↦ said status.Ok (default_output d)
     ]
 
 -- the answer to these words; None where it hangs on bytes that are not told

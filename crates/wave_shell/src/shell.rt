@@ -4,20 +4,20 @@ ghost use Rattle.std.specs.Io.KnownBytes.{Appends};
 ghost use Rattle.outside.specs.Causes.{Rose};
 ghost use Rattle.outside.specs.Content.{AppendsFront, SameBytes};
 ghost use Rattle.outside.specs.declared.reading.TheConstants.{READ_LIMIT};
-ghost use Rattle.wave_shell.specs.Answer.{answer, deck_answer, deck_name, is_name, said, Ends, Gives, IsFault, NameRose};
+ghost use Rattle.wave_shell.specs.Answer.{answer, deck_answer, deck_name, is_name, refusal_text, said, Ends, Gives, IsFault, NameRose};
+ghost use Rattle.wave_shell.specs.declared.status.Status.TheVariants.{Deck as Refused};
 
 use crate::status::Status;
-use crate::text::default_output;
+use crate::text::{default_output, refusal_text};
 use circuit_model::tick_run;
-use deck_cards::{Deck, DeckWhy, read_first};
+use deck_cards::Deck;
+use deck_reader::{DeckRefusal, DeckWhy, read};
 use outside::{ReadRefusal, Shelf, Sink, read_whole, write_all};
 use std::alloc::{AllocError, Global};
 
 const WORDS: &[u8] = b"words do not fit the command\n";
 
 const TOO_LONG: &[u8] = b"deck 0 too long\n";
-
-const NOT_YET: &[u8] = b"deck 0 not in the first form\n";
 
 /// Whether a word names a deck: it does not begin with `-`, or is `-` alone.
 fn is_name(word: &str) -> bool
@@ -55,20 +55,31 @@ fn waves_text(alloc: Global, deck: &Deck) -> Result<String, AllocError>
     default_output(alloc, deck, &ran.waves)
 }
 
+/// Tells the first fault of a deck.
+fn refuse<K: Sink>(alloc: Global, refusal: &DeckRefusal, sink: &mut K) -> Status
+    ensures ends { Ends (said Refused (refusal_text refusal.now)) result (K.written sink.old) (K.written sink.new) (K.faults sink.old) (K.faults sink.new) }
+    ensures later { K.faults sink.old ≤ K.faults sink.new }
+{
+    match refusal_text(alloc, refusal) {
+        Ok(text) => say(sink, Status::Deck, text.as_bytes()),
+        Err(_) => Status::Memory,
+    }
+}
+
 /// Answers the bytes of a deck that is not too long.
 fn answer_deck<K: Sink>(alloc: Global, bytes: &[u8], sink: &mut K) -> Status
     requires { length bytes.now ≤ READ_LIMIT }
     ensures ends { Ends (deck_answer bytes.now) result (K.written sink.old) (K.written sink.new) (K.faults sink.old) (K.faults sink.new) }
     ensures later { K.faults sink.old ≤ K.faults sink.new }
 {
-    match read_first(alloc, bytes) {
+    match read(alloc, bytes) {
         Ok(deck) => match waves_text(alloc, &deck) {
             Ok(text) => say(sink, Status::Ok, text.as_bytes()),
             Err(_) => Status::Memory,
         },
         Err(refusal) => match refusal.why {
-            DeckWhy::NotYet => say(sink, Status::Deck, NOT_YET),
             DeckWhy::Memory => Status::Memory,
+            _ => refuse(alloc, &refusal, sink),
         },
     }
 }
@@ -78,8 +89,8 @@ fn answer_deck<K: Sink>(alloc: Global, bytes: &[u8], sink: &mut K) -> Status
 ///
 /// The words are those after the program's name. They fit where there is exactly one and it does
 /// not begin with `-`, or is `-` alone; else the answer is `Words`. It is `Deck` where the deck has
-/// more than 16,777,216 bytes, is not in the form that is read so far, or is not valid. With `Ok`,
-/// `Words` and `Deck` the whole text is written, and with `Read` nothing.
+/// more than 16,777,216 bytes or a fault, of which the first is told. With `Ok`, `Words` and `Deck`
+/// the whole text is written, and with `Read` nothing.
 #[tactic(auto, using(crate::proofs::Endings::none_falls))]
 pub fn run_alone<S: Shelf, K: Sink>(
     alloc: Global,

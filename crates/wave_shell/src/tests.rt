@@ -93,12 +93,12 @@ fn answers_the_deck(rt: HostRuntime) -> Result<(), Fail> {
         (
             b"rc\n.END\n".to_vec(alloc)?,
             Status::Deck,
-            b"deck 0 not in the first form\n",
+            b"deck 2 no .TRAN\n",
         ),
         (
             vec![in alloc; b'x'; 16_777_216]?,
             Status::Deck,
-            b"deck 0 not in the first form\n",
+            b"deck 1 no .END\n",
         ),
         (
             vec![in alloc; b'x'; 16_777_217]?,
@@ -172,7 +172,7 @@ fn ends_at_a_fault_of_writing(rt: HostRuntime) -> Result<(), Fail> {
         (
             b"rc\n".as_slice(),
             Status::Deck,
-            b"deck 0 not in the first form\n".as_slice(),
+            b"deck 1 no .END\n".as_slice(),
         ),
     ];
     for (deck, want, text) in texts {

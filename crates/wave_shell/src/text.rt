@@ -4,9 +4,11 @@ ghost use Rattle.std.specs.Prelude.{◌≡◌, ◌≤◌, ◌++◌, ℕ, map, le
 ghost use Rattle.semantics.specs.Deck.{nodes};
 ghost use Rattle.semantics.specs.Text.{line_text, wave_head, wave_text, version_text, default_output};
 ghost use Rattle.semantics.specs.Wave.{wave};
+ghost use Rattle.wave_shell.specs.Answer.{refusal_text};
 
 use circuit_model::{Line, Waves};
 use deck_cards::{Deck, Name};
+use deck_reader::DeckRefusal;
 use std::alloc::{AllocError, Global};
 
 /// `TICK MICROVOLTS NUM RATE DEN`, the microvolts rounded down.
@@ -39,6 +41,14 @@ fn version_text(alloc: Global, number: u64) -> Result<String, AllocError>
     ensures { IfOk result (λ text. string_bytes text ≡ version_text number) }
 {
     format!(in alloc; "version {number}\n")
+}
+
+/// `deck LINE CAUSE`.
+#[tactic(auto, unfolding(crate::specs::Answer::refusal_text))]
+pub fn refusal_text(alloc: Global, refusal: &DeckRefusal) -> Result<String, AllocError>
+    ensures { IfOk result (λ text. string_bytes text ≡ refusal_text refusal.now) }
+{
+    format!(in alloc; "deck {} {}\n", refusal.line, refusal.why)
 }
 
 /// Puts the wave of a node behind the text.

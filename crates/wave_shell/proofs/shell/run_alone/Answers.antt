@@ -1,9 +1,9 @@
 -- Each way out gives one answer.
-use Rattle.std.proofs.Common.{◌≡◌, List, ℕ, Option, Some, None, Err, map, refl, sym, ◌∙◌, ap, arith}
-use Rattle.std.specs.Prelude.{string_bytes, option_map, codes}
+use Rattle.std.proofs.Common.{◌≡◌, List, ℕ, Option, None, Err, map, refl, sym, ◌∙◌, ap, arith}
+use Rattle.std.specs.Prelude.{string_bytes, codes}
 use Rattle.wave_shell.specs.Answer.{deck_answer, deck_name, said}
 use Rattle.wave_shell.specs.declared.status.Status.TheVariants as status
-use Rattle.wave_shell.proofs.Endings.{Clauses, clauses, unfit_answer, deck_known, long_known, deck_may, deck_fits, none_falls}
+use Rattle.wave_shell.proofs.Endings.{clauses, unfit_answer, deck_known, long_known, deck_may, deck_fits, none_falls}
 use Rattle.wave_shell.proofs.shell.run_alone.Goals as goal
 
 pub returns-in_default : goal.returns-in_default

@@ -1,8 +1,8 @@
 -- The wave of one node more.
-use Rattle.std.proofs.Common.{◌≡◌, ℕ, ◌+◌, ◌<◌, ◌≤◌, List, [], ◌∷◌, ◌++◌, length, get_or, take, map, Some, refl, sym, ◌∙◌, ap, arith}
+use Rattle.std.proofs.Common.{◌≡◌, ℕ, ◌+◌, ◌<◌, List, [], ◌++◌, length, get_or, take, Some, refl, sym, ◌∙◌, ap, arith}
 use Rattle.std.specs.Prelude.{slice_get}
 use Rattle.std.specs.List.{flat_map}
-use Rattle.std.proofs.lemmas.List.{get_or-map, length-map, take_more, append_assoc, flat_map_more}
+use Rattle.std.proofs.lemmas.List.{get_or-map, length-map, take_more, flat_map_more}
 use Rattle.std.proofs.lemmas.Option.{slice_get-get_or}
 use Rattle.semantics.specs.declared.line.Line.{Line}
 use Rattle.semantics.specs.Deck.{DeckValue, nodes}

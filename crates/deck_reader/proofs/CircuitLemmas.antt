@@ -1,0 +1,90 @@
+-- The elements of a circuit and the sets beside them.
+use Rattle.std.proofs.Common.{◌≡◌, ℕ, Bool, true, false, not, ◌||◌, if◌then◌else◌, List, [], ◌∷◌, ◌++◌, length, map, fold, Option, Some, None, is_some, Ok, Err, refl, sym, ◌∙◌, ap, append-nil}
+use Rattle.std.proofs.lemmas.Grind.{flat_map-append, fold-append}
+use Rattle.deck_cards.specs.declared.which.Which.TheVariants.{Nodes}
+use Rattle.std.specs.Prelude.{nat_lt}
+use Rattle.std.specs.List.{list_any, flat_map}
+use Rattle.std.specs.Str.{bytes_eq}
+use Rattle.std.proofs.lemmas.List.{map-append}
+use Rattle.semantics.specs.declared.element.Element.{Element}
+use Rattle.semantics.specs.Ground.{is_ground}
+use Rattle.semantics.specs.Deck.{name_of, ends_of, look_up}
+use Rattle.semantics.specs.Valid.{is_grounded, driven_of}
+use Rattle.deck_cards.specs.Causes.{first_that, is_named, is_driven}
+use Rattle.deck_reader.specs.declared.why.DeckWhy.{DeckWhy}
+use Rattle.deck_reader.specs.declared.why.DeckWhy.TheVariants.{TwoDrivers, Limit}
+use Rattle.deck_reader.specs.declared.element.ElementCard.{ElementCard}
+use Rattle.deck_reader.specs.Words.{Word}
+use Rattle.deck_reader.specs.Circuit.{Circuit, elements_of, with_node, with_ends, node_lines, element_fault, with_placed}
+use Rattle.deck_reader.specs.Indexed.{IsIndexed}
+use Rattle.deck_reader.proofs.IndexLemmas.{any-map}
+
+-- whether an element has a name, by the names of all
+pub named_by : (circuit now : Circuit) (names : List Word) (n : Word) → names ≡ map name_of (elements_of circuit) → circuit ≡ now
+    → list_any (bytes_eq n) names ≡ is_named (elements_of now) n
+named_by circuit now names n same is =
+    ap (list_any (bytes_eq n)) same ∙ any-map (bytes_eq n) name_of (elements_of circuit) ∙ ap (λ c. is_named (elements_of c) n) is
+
+-- a new node that is not ground stands last
+pub with_node-new : (line : ℕ) (seen : List (Word × ℕ)) (name : Word) → is_ground name ≡ false → is_some (look_up name seen) ≡ false
+    → with_node line seen name ≡ seen ++ (name, line) ∷ []
+with_node-new line seen name node new = λ i. if node i || new i then seen else seen ++ (name, line) ∷ []
+
+-- the nodes of one more element
+pub node_lines-more : (circuit : Circuit) (line : ℕ) (e : Element) → node_lines (circuit ++ (line, e) ∷ []) ≡ fold (with_node line) (node_lines circuit) (ends_of e)
+unfolding node_lines
+node_lines-more circuit line e = fold-append with_ends [] circuit ((line, e) ∷ [])
+
+-- the sets of one more element
+pub indexed_more : (circuit : Circuit) (line : ℕ) (e : Element) (names driven : List Word) (lines : List (Word × ℕ)) → IsIndexed circuit names driven lines
+    → IsIndexed (circuit ++ (line, e) ∷ []) (names ++ name_of e ∷ []) (driven ++ driven_of e) (fold (with_node line) lines (ends_of e))
+indexed_more circuit line e names driven lines is = record {
+  named =
+      ap (λ ns. ns ++ name_of e ∷ []) is.named
+      ∙ sym (ap (map name_of) (map-append (λ (at : ℕ × Element). at.1) circuit ((line, e) ∷ [])) ∙ map-append name_of (elements_of circuit) (e ∷ []));
+  drives =
+      ap (λ ns. ns ++ driven_of e) is.drives
+      ∙ sym (ap (flat_map driven_of) (map-append (λ (at : ℕ × Element). at.1) circuit ((line, e) ∷ [])) ∙ flat_map-append driven_of (elements_of circuit) (e ∷ [])
+      ∙ ap (λ l. flat_map driven_of (elements_of circuit) ++ l) (append-nil (driven_of e)));
+  nodes = ap (λ ls. fold (with_node line) ls (ends_of e)) is.nodes ∙ sym (node_lines-more circuit line e);
+}
+
+-- the same of the sets that stand for these
+pub indexed : (circuit : Circuit) (names driven : List Word) (lines : List (Word × ℕ)) (circuit' : Circuit) (names' driven' : List Word) (lines' : List (Word × ℕ))
+    → IsIndexed circuit names driven lines → circuit' ≡ circuit → names' ≡ names → driven' ≡ driven → lines' ≡ lines → IsIndexed circuit' names' driven' lines'
+indexed circuit names driven lines circuit' names' driven' lines' is a b c d = record {
+  named = b ∙ is.named ∙ ap (λ l. map name_of (elements_of l)) (sym a);
+  drives = c ∙ is.drives ∙ ap (λ l. flat_map driven_of (elements_of l)) (sym a);
+  nodes = d ∙ is.nodes ∙ ap node_lines (sym a);
+}
+
+-- what an element has that may stand behind others
+pub record IsClear (circuit : Circuit) (e : Element) : Type 0 where
+  pub named : is_named (elements_of circuit) (name_of e) ≡ false
+  pub grounded : is_grounded e ≡ true
+  pub free : first_that (is_driven (elements_of circuit)) (driven_of e) ≡ None
+
+clear : (named grounded : Bool) (driven : Option Word) (x y : DeckWhy) (rest : Option DeckWhy)
+    → (if named then Some x else if not grounded then Some y else elim driven [ Some node ↦ Some (TwoDrivers node) | None ↦ rest ]) ≡ None
+    → (named ≡ false) × (grounded ≡ true) × (driven ≡ None)
+clear true grounded driven x y rest is = absurd (cc)
+clear false false driven x y rest is = absurd (cc)
+clear false true (Some node) x y rest is = absurd (cc)
+clear false true None x y rest is = (refl, refl, refl)
+
+pub is_clear : (circuit : Circuit) (card : ElementCard) → element_fault circuit card ≡ None → IsClear circuit card.element
+unfolding element_fault
+is_clear circuit card is =
+    let all = clear (is_named (elements_of circuit) (name_of card.element)) (is_grounded card.element) (first_that (is_driven (elements_of circuit)) (driven_of card.element)) _ _ _ is in
+    record { named = all.0; grounded = all.1; free = all.2 }
+
+-- one more element, whose nodes are these
+pub with_placed-at : (inside circuit : Circuit) (line : ℕ) (e : Element) (lines before : List (Word × ℕ)) (over : Bool)
+    → inside ≡ circuit → before ≡ node_lines inside → lines ≡ fold (with_node line) before (ends_of e) → over ≡ nat_lt 100000 (length lines)
+    → with_placed circuit line e ≡ (if over then Err (Limit Nodes (name_of e)) else Ok (circuit ++ (line, e) ∷ []))
+unfolding with_placed
+with_placed-at inside circuit line e lines before over same known grown is =
+    let nodes : node_lines (circuit ++ (line, e) ∷ []) ≡ lines =
+    node_lines-more circuit line e ∙ ap (λ l. fold (with_node line) l (ends_of e)) (ap node_lines (sym same) ∙ sym known) ∙ sym grown in
+    let test : nat_lt 100000 (length (node_lines (circuit ++ (line, e) ∷ []))) ≡ over = ap (λ l. nat_lt 100000 (length l)) nodes ∙ sym is in
+    ap (λ b. if b then Err (Limit Nodes (name_of e)) else Ok (circuit ++ (line, e) ∷ [])) test

@@ -1,0 +1,12 @@
+pub mod WordLemmas
+pub mod DeviceLemmas
+pub mod SourceLemmas
+pub mod BehindLemmas
+pub mod TableLemmas
+pub mod IndexLemmas
+pub mod CircuitLemmas
+pub mod VoltageLemmas
+pub mod InversionLemmas
+pub mod ElementLemmas
+pub mod KeptLemmas
+pub mod SoundLemmas

@@ -1,0 +1,15 @@
+use Rattle.std.proofs.Common.{◌∙◌, ap, is_some}
+use Rattle.std.specs.List.{list_any}
+use Rattle.std.specs.Str.{bytes_eq}
+use Rattle.semantics.specs.Deck.{look_up}
+use Rattle.deck_cards.specs.Part.{part_of}
+use Rattle.deck_reader.proofs.IndexLemmas.{look_up-map}
+use Rattle.deck_reader.proofs.tables.Tables.with.Goals as goal
+
+pub note_name-requires : goal.note_name-requires
+note_name-requires c =
+    let name = c.args.name in
+    ap (list_any (bytes_eq name)) c.self.invariant
+    ∙ look_up-map part_of name c.self.inside.parts.items
+    ∙ ap (λ tables. is_some (look_up name tables)) c.self.view_is
+    ∙ c.requires

@@ -1,0 +1,14 @@
+pub mod Text
+pub mod Words
+pub mod Numbers
+pub mod Sources
+pub mod Elements
+pub mod Lines
+pub mod Tables
+pub mod Dots
+pub mod Circuit
+pub mod Indexed
+pub mod Told
+pub mod Reading
+pub mod Voltages
+pub mod Sound

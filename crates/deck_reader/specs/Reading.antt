@@ -1,0 +1,128 @@
+-- The deck that a text says, or its first fault: that of the first card at fault, else that of its lines, else that of the whole deck.
+use Rattle.std.specs.Prelude.{◌≡◌, ℕ, List, [], ◌∷◌, take_while, Bool, not, ◌==◌, if◌then◌else◌, Option, Some, None, is_none, unwrap_or, Result, Ok, Err, ◌⊎◌}
+use Rattle.std.specs.Option.{option_and_then}
+use Rattle.semantics.specs.declared.element.Element.{Element}
+use Rattle.semantics.specs.declared.element.Element.TheVariants.{Resistor, Capacitor, Source, Mos}
+use Rattle.semantics.specs.Part.{Part}
+use Rattle.semantics.specs.Deck.{DeckValue, look_up, first_some}
+use Rattle.deck_lexer.specs.declared.fault.LexFault.{LexFault}
+use Rattle.deck_lexer.specs.declared.fault.LexFault.TheVariants as lexer
+use Rattle.deck_lexer.specs.Bytes.{line_feed}
+use Rattle.deck_lexer.specs.Cards.{Card}
+use Rattle.deck_lexer.specs.Reading.{deck_cards, deck_fault, deck_end}
+use Rattle.deck_cards.specs.declared.edit_refusal.EditRefusal.{EditRefusal}
+use Rattle.deck_cards.specs.declared.edit_refusal.EditRefusal.TheVariants as edit
+use Rattle.deck_cards.specs.Causes.{first_of, uncapped, no_initial, node_farads, many_terminals}
+use Rattle.deck_cards.specs.Settled.{settled}
+use Rattle.deck_reader.specs.declared.why.DeckWhy.{DeckWhy}
+use Rattle.deck_reader.specs.declared.why.DeckWhy.TheVariants.{NotAscii, ContinuesNothing, NoTran, NoSuchModel, Uncapped, NoInitial, Limit, NoEnd, Memory}
+use Rattle.deck_reader.specs.declared.why.DeckRefusal.{DeckRefusal}
+use Rattle.deck_reader.specs.declared.told.Told.{Told}
+use Rattle.deck_reader.specs.Words.{Word}
+use Rattle.deck_reader.specs.Numbers.{◌>>=◌}
+use Rattle.deck_reader.specs.Circuit.{elements_of, node_lines}
+use Rattle.deck_reader.specs.Told.{nothing, with_words}
+
+-- a fault at this line
+abbrev pub at : ℕ → DeckWhy → DeckRefusal
+at line why = record { line = line; why = why }
+
+-- ---- the cards
+
+abbrev pub at_line : {A : Type 0} → ℕ → Result A DeckWhy → Result A DeckRefusal
+at_line line (Ok x) = Ok x
+at_line line (Err why) = Err (at line why)
+
+-- what these cards make of what is told, or the first fault of the first that has one
+unfoldable pub told_after : Told → List Card → Result Told DeckRefusal
+told_after told [] = Ok told
+told_after told (card ∷ cards) = do
+  next ← at_line card.line (with_words told card.line card.words)
+  told_after next cards
+
+-- ---- the lines
+
+abbrev pub lexer_refusal : LexFault → DeckRefusal
+lexer_refusal (lexer.NotAscii line) = at line NotAscii
+lexer_refusal (lexer.ContinuesNothing line) = at line ContinuesNothing
+lexer_refusal (lexer.NoEnd line) = at line NoEnd
+
+-- ---- the whole deck
+
+-- the deck that is told, with all parts and initial voltages
+abbrev pub told_deck : List ℕ → Told → ℕ × Bool → DeckValue
+told_deck title told span = record {
+  title = title;
+  stop = span.0;
+  uic = span.1;
+  grain = told.grain;
+  parts = told.tables;
+  initial = told.initial;
+  elements = elements_of told.circuit;
+}
+
+-- the same, where the last voltage of each node holds
+unfoldable pub deck_of : List ℕ → Told → ℕ × Bool → DeckValue
+deck_of title told span = settled (told_deck title told span)
+
+-- a device whose part is not defined, at its line
+abbrev pub missing_part : List (Word × Part) → ℕ × Element → Option DeckRefusal
+missing_part tables (line, Mos name drain gate source bulk part len width) = if is_none (look_up part tables) then Some (at line (NoSuchModel part)) else None
+missing_part tables (line, Resistor name first second ohms) = None
+missing_part tables (line, Capacitor name plus minus farads) = None
+missing_part tables (line, Source name plus minus wave) = None
+
+unfoldable pub no_such_model : Told → Option DeckRefusal
+no_such_model told = first_some (missing_part told.tables) told.circuit
+
+-- the line of the first card that has this node at an end
+abbrev pub line_of : List (Word × ℕ) → Word → ℕ
+line_of lines node = unwrap_or (look_up node lines) 0
+
+-- a cause of a node, at that line
+abbrev pub node_refusal : List (Word × ℕ) → EditRefusal → Option DeckRefusal
+node_refusal lines (edit.Uncapped node) = Some (at (line_of lines node) (Uncapped node))
+node_refusal lines (edit.NoInitial node) = Some (at (line_of lines node) (NoInitial node))
+node_refusal lines (edit.Limit which node) = Some (at (line_of lines node) (Limit which node))
+node_refusal lines _ = None
+
+-- the first cause of a free node: no capacitance, no initial voltage, too much capacitance, too many ends
+unfoldable pub node_cause : DeckValue → Option EditRefusal
+node_cause d = first_of (uncapped d ∷ no_initial d ∷ node_farads d ∷ many_terminals d ∷ [])
+
+-- the deck, or the first fault of its nodes, which have these lines
+unfoldable pub sound : List (Word × ℕ) → DeckValue → Result DeckValue DeckRefusal
+sound lines d = elim (option_and_then (node_refusal lines) (node_cause d)) [ Some refusal ↦ Err refusal | None ↦ Ok d ]
+
+-- the deck that is told in a text of this title that ends at this line, or its first fault as a whole
+unfoldable pub whole : List ℕ → ℕ → Told → Result DeckValue DeckRefusal
+whole title end told = elim told.span [
+  | None ↦ Err (at end NoTran)
+  | Some span ↦ elim (no_such_model told) [
+    | Some refusal ↦ Err refusal
+    | None ↦ sound (node_lines told.circuit) (deck_of title told span)
+  ]
+]
+
+-- ---- the text
+
+-- the title: what stands before the first LF
+abbrev pub title_of : List ℕ → List ℕ
+title_of text = take_while (λ b. not (b == line_feed)) text
+
+-- the deck, or the fault of the lines, or the first fault as a whole
+unfoldable pub deck_or : List ℕ → Told → Result DeckValue DeckRefusal
+deck_or text told = elim (deck_fault text) [
+  | Some fault ↦ Err (lexer_refusal fault)
+  | None ↦ whole (title_of text) (deck_end text) told
+]
+
+unfoldable pub deck_in : List ℕ → Result DeckValue DeckRefusal
+deck_in text = do
+  told ← told_after nothing (deck_cards text)
+  deck_or text told
+
+-- the answer is what the text says; only where memory is wanting it may be that alone, with line 0
+abbrev pub Reads : {A : Type 0} → Result A DeckRefusal → Result A DeckRefusal → Type 0
+Reads (Ok x) said = said ≡ Ok x
+Reads (Err refusal) said = (refusal ≡ at 0 Memory) ⊎ (said ≡ Err refusal)

@@ -1,0 +1,18 @@
+-- Cards without a fault leave only causes of nodes to the whole deck.
+use Rattle.std.specs.Prelude.{◌≡◌, ℕ, Bool, List, Some, None, ◌⊎◌}
+use Rattle.deck_cards.specs.declared.edit_refusal.EditRefusal.{EditRefusal}
+use Rattle.deck_cards.specs.Causes.{deck_cause}
+use Rattle.deck_reader.specs.declared.why.DeckRefusal.{DeckRefusal}
+use Rattle.deck_reader.specs.declared.why.DeckWhy.TheVariants.{Memory}
+use Rattle.deck_reader.specs.declared.told.Told.{Told}
+use Rattle.deck_reader.specs.Words.{Word}
+use Rattle.deck_reader.specs.Reading.{at, no_such_model, deck_of, node_cause, node_refusal}
+
+-- where no part is missing, the first cause why the cards make no valid deck is one of a node
+pub record IsSound (told : Told) : Type 0 where
+  pub nodes_alone : (title : List ℕ) (span : ℕ × Bool) → told.span ≡ Some span → no_such_model told ≡ None
+      → deck_cause (deck_of title told span) ≡ node_cause (deck_of title told span)
+
+-- the refusal of a cause of a node, or want of memory
+abbrev pub Tells : DeckRefusal → List (Word × ℕ) → EditRefusal → Type 0
+Tells refusal lines cause = (refusal ≡ at 0 Memory) ⊎ (node_refusal lines cause ≡ Some refusal)

@@ -1,0 +1,182 @@
+ghost use Rattle.std.specs.Prelude.{◌≡◌, ◌++◌, ◌∷◌, [], nat_lt, length, true, false, None, IfOk, OnOk};
+ghost use Rattle.std.specs.Option.{option_copied};
+ghost use Rattle.semantics.specs.Deck.{name_of};
+ghost use Rattle.semantics.specs.Valid as valid;
+ghost use Rattle.deck_cards.specs.Causes.{first_that, is_named, is_driven};
+ghost use Rattle.deck_reader.specs.Numbers.{Gives};
+ghost use Rattle.deck_reader.specs.Circuit.{elements_of, element_fault, with_placed, with_element, node_lines};
+
+use crate::element::ElementCard;
+use crate::ends::{is_grounded, name_of};
+use crate::index::{driven_again, note_driven, note_ends, note_name};
+use crate::why::DeckWhy;
+use deck_cards::Which;
+use indexmap::{IndexMap, IndexSet};
+use semantics::{Element, Name};
+use std::alloc::{AllocError, Global};
+use std::marker::Model;
+
+/// The most elements, and the most nodes, of a deck.
+const MOST_THINGS: usize = 100_000;
+
+/// The elements that the cards of a deck have said so far, each with the line of its card.
+#[derive(Drop)]
+pub struct Circuit {
+    placed: Vec<(u32, Element)>,
+    /// The names of the elements.
+    names: IndexSet<Name>,
+    /// The nodes that sources drive.
+    driven: IndexSet<Name>,
+    /// The nodes, each with the line of the first card that has it at an end.
+    nodes: IndexMap<Name, u32>,
+}
+
+impl Model for Circuit {
+    ghost use Rattle.std.specs.Prelude.{ℕ, List};
+    ghost use Rattle.semantics.specs.declared.element.Element.{Element};
+    ghost use Rattle.deck_reader.specs.Indexed.{IsIndexed};
+
+    ghost Value = { List (ℕ × Element) };
+
+    ghost view = { λ c. c.placed.items };
+
+    ghost invariant = { λ c. IsIndexed c.placed.items c.names.keys c.driven.keys c.nodes.entries };
+}
+
+/// Whether there are more nodes than a deck may have.
+fn is_over(nodes: &IndexMap<Name, u32>) -> bool
+    ensures { result ≡ nat_lt 100000 (length nodes.now.entries) }
+{
+    nodes.len() > MOST_THINGS
+}
+
+/// Puts an element with its line last.
+fn put(placed: &mut Vec<(u32, Element)>, line: u32, element: Element) -> Result<(), AllocError>
+    ensures { OnOk result (placed.new.items ≡ placed.old.items ++ (line, element) ∷ []) }
+{
+    placed.push((line, element))?;
+    Ok(())
+}
+
+impl Circuit {
+    /// No element.
+    #[tactic(auto, unfolding(crate::specs::Circuit::node_lines))]
+    pub fn new(alloc: Global) -> Circuit
+        ensures { result ≡ [] }
+    {
+        Circuit {
+            placed: Vec::new(alloc),
+            names: IndexSet::new(alloc),
+            driven: IndexSet::new(alloc),
+            nodes: IndexMap::new(alloc),
+        }
+    }
+
+    /// Whether an element has this name.
+    fn is_named(&self, name: &Name) -> bool
+        ensures { result ≡ is_named (elements_of self.now) name.now }
+    {
+        self.names.contains(name)
+    }
+
+    /// The node that this element drives and that is driven already.
+    fn driven_again<'a>(&self, element: &'a Element) -> Option<&'a Name>
+        ensures { option_copied result ≡ first_that (is_driven (elements_of self.now)) (valid.driven_of element.now) }
+    {
+        driven_again(&self.driven, element)
+    }
+
+    /// Why the element of a card can't stand behind these.
+    #[tactic(auto, unfolding(crate::specs::Circuit::element_fault))]
+    fn fault(&self, card: &ElementCard) -> Result<Option<DeckWhy>, AllocError>
+        ensures { IfOk result (λ fault. fault ≡ element_fault self.now card.now) }
+    {
+        let name = name_of(&card.element);
+        if self.is_named(name) {
+            return Ok(Some(DeckWhy::DuplicateName(name.copy()?)));
+        }
+        if !is_grounded(&card.element) {
+            return Ok(Some(DeckWhy::NotGrounded(name.copy()?)));
+        }
+        if let Some(node) = self.driven_again(&card.element) {
+            return Ok(Some(DeckWhy::TwoDrivers(node.copy()?)));
+        }
+        if let Some(which) = card.limit {
+            return Ok(Some(DeckWhy::Limit(which, name.copy()?)));
+        }
+        if self.placed.len() >= MOST_THINGS {
+            return Ok(Some(DeckWhy::Limit(Which::Elements, name.copy()?)));
+        }
+        Ok(None)
+    }
+
+    /// These elements and one more, whose name is new and which drives no driven node.
+    #[tactic(auto, unfolding(crate::specs::Circuit::with_placed))]
+    fn with_placed(self, line: u32, element: Element) -> Result<Circuit, DeckWhy>
+        requires named { is_named (elements_of self) (name_of element) ≡ false }
+        requires grounded { valid.is_grounded element ≡ true }
+        requires driven { first_that (is_driven (elements_of self)) (valid.driven_of element) ≡ None }
+        ensures { Gives result (with_placed self line element) }
+    {
+        let Circuit {
+            mut placed,
+            mut names,
+            mut driven,
+            mut nodes,
+        } = self;
+        note_name(&mut names, name_of(&element))?;
+        note_driven(&mut driven, &element)?;
+        note_ends(&mut nodes, &element, line)?;
+        if is_over(&nodes) {
+            return Err(DeckWhy::Limit(Which::Nodes, name_of(&element).copy()?));
+        }
+        put(&mut placed, line, element)?;
+        Ok(Circuit {
+            placed,
+            names,
+            driven,
+            nodes,
+        })
+    }
+
+    /// These elements and that of one more card.
+    #[tactic(auto, unfolding(crate::specs::Circuit::with_element))]
+    pub fn with_element(self, line: u32, card: ElementCard) -> Result<Circuit, DeckWhy>
+        ensures { Gives result (with_element self line card) }
+    {
+        match self.fault(&card)? {
+            Some(why) => Err(why),
+            None => self.with_placed(line, card.element),
+        }
+    }
+
+    /// The elements, each with the line of its card.
+    pub fn placed(&self) -> &[(u32, Element)]
+        ensures { result.now ≡ self.now }
+    {
+        &self.placed
+    }
+
+    /// The elements, and the nodes, each with the line of the first card that has it at an end.
+    pub fn into_parts(
+        self,
+        alloc: Global,
+    ) -> Result<(Vec<Element>, IndexMap<Name, u32>), AllocError>
+        ensures elements { IfOk result (λ parts. parts.0.items ≡ elements_of self) }
+        ensures lines { IfOk result (λ parts. parts.1.entries ≡ node_lines self) }
+    {
+        let Circuit { placed, nodes, .. } = self;
+        Ok((elements_of(alloc, placed)?, nodes))
+    }
+}
+
+/// The elements without their lines.
+fn elements_of(alloc: Global, placed: Vec<(u32, Element)>) -> Result<Vec<Element>, AllocError>
+    ensures { IfOk result (λ elements. elements.items ≡ elements_of placed.items) }
+{
+    let mut elements = Vec::with_capacity(alloc, placed.len())?;
+    for (_, element) in placed {
+        elements.push(element)?;
+    }
+    Ok(elements)
+}

@@ -1,0 +1,29 @@
+//! Reads the text of a circuit deck: the deck that its cards say, or its first fault.
+#![tactic(auto)]
+
+mod capacitor;
+mod circuit;
+mod device;
+mod element;
+mod ends;
+mod index;
+mod initial;
+mod number;
+mod options;
+mod reader;
+mod resistor;
+mod source;
+mod table;
+mod tables;
+mod told;
+mod tran;
+mod whole;
+mod why;
+mod words;
+
+pub use element::{read_element, read_wave};
+pub use reader::read;
+pub use why::{DeckRefusal, DeckWhy};
+
+#[cfg(test)]
+mod tests;

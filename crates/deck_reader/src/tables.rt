@@ -1,0 +1,93 @@
+ghost use Rattle.std.specs.Prelude.{◌≡◌, ◌++◌, ◌∷◌, [], false, map, is_some, IfOk};
+ghost use Rattle.semantics.specs.Deck.{look_up};
+ghost use Rattle.semantics.specs.Part as part;
+ghost use Rattle.deck_cards.specs.Part.{part_of};
+ghost use Rattle.deck_reader.specs.Numbers.{Gives};
+ghost use Rattle.deck_reader.specs.Told.{with_table};
+
+use crate::index::note_name;
+use crate::table::table_of;
+use crate::why::DeckWhy;
+use crate::words::Words;
+use deck_cards::Part;
+use indexmap::IndexSet;
+use semantics::Name;
+use std::alloc::{AllocError, Global};
+use std::marker::Model;
+
+/// The tables that the cards of a deck have said so far, each with its name.
+#[derive(Drop)]
+pub struct Tables {
+    parts: Vec<(Name, Part)>,
+    names: IndexSet<Name>,
+}
+
+impl Model for Tables {
+    ghost use Rattle.std.specs.Prelude.{◌≡◌, ℕ, List, map};
+    ghost use Rattle.semantics.specs.Part as part;
+    ghost use Rattle.deck_cards.specs.Part.{part_of};
+
+    ghost Value = { List (List ℕ × part.Part) };
+
+    ghost view = { λ t. map (λ p. (p.0, part_of p.1)) t.parts.items };
+
+    ghost invariant = { λ t. t.names.keys ≡ map (λ p. p.0) t.parts.items };
+}
+
+impl Tables {
+    /// No table.
+    pub fn new(alloc: Global) -> Tables
+        ensures { result ≡ [] }
+    {
+        Tables {
+            parts: Vec::new(alloc),
+            names: IndexSet::new(alloc),
+        }
+    }
+
+    /// Whether a table has this name.
+    pub fn has(&self, name: &Name) -> bool
+        ensures { result ≡ is_some (look_up name.now self.now) }
+    {
+        self.names.contains(name)
+    }
+
+    /// These tables and one more, whose name is new.
+    fn with(self, name: Name, part: Part) -> Result<Tables, AllocError>
+        requires { is_some (look_up name self) ≡ false }
+        ensures { IfOk result (λ tables. tables ≡ self ++ (name, part_of part) ∷ []) }
+    {
+        let Tables {
+            mut parts,
+            mut names,
+        } = self;
+        note_name(&mut names, &name)?;
+        parts.push((name, part))?;
+        Ok(Tables { parts, names })
+    }
+
+    /// These tables and that of the words behind `.table`.
+    #[tactic(auto, unfolding(crate::specs::Told::with_table))]
+    pub fn with_table(self, alloc: Global, words: &mut Words<'_>) -> Result<Tables, DeckWhy>
+        ensures { Gives result (with_table self words.old) }
+    {
+        let word = words.next().ok_or(DeckWhy::WrongWords)?;
+        let table = table_of(alloc, words)?;
+        let name = word.to_name(alloc)?;
+        if self.has(&name) {
+            return Err(DeckWhy::DuplicateModel(name));
+        }
+        match table.limit() {
+            Some(which) => Err(DeckWhy::Limit(which, name)),
+            None => Ok(self.with(name, table.into_part())?),
+        }
+    }
+
+    /// The tables, each with its name.
+    pub fn into_parts(self) -> Vec<(Name, Part)>
+        ensures { map (λ p. (p.0, part_of p.1)) result.items ≡ self }
+    {
+        let Tables { parts, .. } = self;
+        parts
+    }
+}

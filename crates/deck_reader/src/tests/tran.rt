@@ -1,0 +1,66 @@
+//! Rows on the card of the stop.
+
+use super::Row;
+
+pub const ROWS: &[Row] = &[
+    (7, ".TRAN 1p 1n", "ok"),
+    (7, ".tran 1PS 1NS", "ok"),
+    (7, ".TRAN 1p 1n UIC", "ok"),
+    (7, ".TRAN 1p 1n 0", "ok"),
+    (7, ".TRAN 1p 1n 0 UIC", "ok"),
+    (7, ".TRAN 1p 1n 0 1p", "ok"),
+    (7, ".TRAN 1p 1n 0 1p uic", "ok"),
+    (7, ".TRAN 1p\n+ 1n", "ok"),
+    // What has no effect.
+    (7, ".TRAN -1p 1n", "ok"),
+    (7, ".TRAN 0 1n", "ok"),
+    (7, ".TRAN 1 1n", "ok"),
+    (7, ".TRAN 1p 1n -1", "ok"),
+    (7, ".TRAN 1p 1n 0 -1", "ok"),
+    (7, ".TRAN -1 1n -1 -1", "ok"),
+    (7, ".TRAN -1 1n -1 -1 UIC", "ok"),
+    (7, ".TRAN 1 1n 1 1", "ok"),
+    // Another number of words.
+    (7, ".TRAN", "7 wrong words"),
+    (7, ".TRAN UIC", "7 wrong words"),
+    (7, ".TRAN 1p", "7 wrong words"),
+    (7, ".TRAN 1p UIC", "7 wrong words"),
+    (7, ".TRAN UIC 1p", "7 bad number uic"),
+    (7, ".TRAN UIC UIC", "7 wrong words"),
+    (7, ".TRAN 1p 1n 0 0 0", "7 wrong words"),
+    (7, ".TRAN 1p 1n 0 0 0 UIC", "7 wrong words"),
+    (7, ".TRAN x", "7 wrong words"),
+    (7, ".TRAN x y 0 0 0", "7 wrong words"),
+    // A word that should be a number.
+    (7, ".TRAN UIC 1p 1n", "7 bad number uic"),
+    (7, ".TRAN 1p UIC 1n", "7 bad number uic"),
+    (7, ".TRAN 1p 1n UIC 0", "7 bad number uic"),
+    (7, ".TRAN 1p 1n UIC UIC", "7 bad number uic"),
+    (7, ".TRAN UIC 1p UIC", "7 bad number uic"),
+    (7, ".TRAN x y z w", "7 bad number x"),
+    (7, ".TRAN 1p y z w", "7 bad number y"),
+    (7, ".TRAN 1p 1n z w", "7 bad number z"),
+    (7, ".TRAN 1p 1n 0 w", "7 bad number w"),
+    (7, ".TRAN 1p 1n UICS", "7 bad number uics"),
+    (7, ".TRAN 1p 1e6", "7 bad number 1e6"),
+    (7, ".TRAN x -1n", "7 bad number x"),
+    (7, ".TRAN 1p -1n x", "7 bad number x"),
+    // Limits of the stop.
+    (7, ".TRAN 1p 0", "ok"),
+    (7, ".TRAN 1p 10m", "ok"),
+    (7, ".TRAN 1p -0.4p", "ok"),
+    (7, ".TRAN 1p -1n", "7 limit seconds .tran"),
+    (7, ".TRAN 1p 10.1m", "7 limit seconds .tran"),
+    (7, ".TRAN 1p 10.000000001m UIC", "7 limit seconds .tran"),
+    // A second one.
+    (6, ".TRAN 1p 1n", "7 second .TRAN"),
+    (7, ".TRAN 1p 1n\n.TRAN 1p 1n", "8 second .TRAN"),
+    (7, ".TRAN 1p 1n UIC\n.tran 1p 1n UIC", "8 second .TRAN"),
+    (7, ".TRAN 1p 1n\n.TRAN 1p", "8 wrong words"),
+    (7, ".TRAN 1p 1n\n.TRAN 1p x", "8 bad number x"),
+    (7, ".TRAN 1p 1n\n.TRAN 1p -1n", "8 second .TRAN"),
+    (7, ".TRAN 1p -1n\n.TRAN 1p 1n", "7 limit seconds .tran"),
+    // Nodes without an initial voltage.
+    (7, "C2 c 0 1p\n.TRAN 1p 1n", "7 no initial c"),
+    (7, "C2 c 0 1p\n.TRAN 1p 1n UIC", "ok"),
+];

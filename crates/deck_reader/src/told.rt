@@ -1,0 +1,164 @@
+//! What the cards of a deck have said so far, and what one more card makes of it.
+
+ghost use Rattle.std.specs.Prelude.{◌≡◌, None};
+ghost use Rattle.deck_reader.specs.Numbers.{Gives};
+ghost use Rattle.deck_reader.specs.Told.{nothing, is_grain, grain_after, with_options, span_after, with_tran, is_output, is_options, with_words};
+
+use crate::circuit::Circuit;
+use crate::element::element;
+use crate::initial::Voltages;
+use crate::options::options;
+use crate::source::is_time;
+use crate::tables::Tables;
+use crate::tran::{Span, tran};
+use crate::why::DeckWhy;
+use crate::words::{Word, Words};
+use deck_cards::Which;
+use deck_lexer::CardLine;
+use std::alloc::Global;
+
+/// What the cards of a deck have said so far.
+#[derive(Drop)]
+pub struct Told {
+    /// The elements, each with the line of its card.
+    pub circuit: Circuit,
+    /// The tables, each with its name.
+    pub tables: Tables,
+    /// The initial voltages, each with its node; the last one of a node holds.
+    pub initial: Voltages,
+    /// The grain in microvolts.
+    pub grain: u32,
+    /// The stop tick, and whether there is `uic`, where a `.tran` stands before.
+    pub span: Option<(u64, bool)>,
+}
+
+/// Whether this is a grain of a deck: even, and from 2 µV to 1 V.
+fn is_grain(volts: &i64) -> bool
+    ensures { result ≡ is_grain volts.now }
+{
+    2 <= *volts && *volts <= 1_000_000 && *volts % 2 == 0
+}
+
+/// The grain after a card that says this one, or none.
+fn grain_after(
+    alloc: Global,
+    before: u32,
+    word: &Word<'_>,
+    said: &Option<i64>,
+) -> Result<u32, DeckWhy>
+    ensures { Gives result (grain_after before word.now said.now) }
+{
+    let Some(volts) = said else {
+        return Ok(before);
+    };
+    if !is_grain(volts) {
+        return Err(DeckWhy::Limit(Which::Grain, word.to_name(alloc)?));
+    }
+    Ok(*volts as u32)
+}
+
+/// The grain after the words behind `.options`.
+#[tactic(auto, unfolding(crate::specs::Told::with_options))]
+fn with_options(
+    alloc: Global,
+    before: u32,
+    word: &Word<'_>,
+    words: &mut Words<'_>,
+) -> Result<u32, DeckWhy>
+    ensures { Gives result (with_options before word.now words.old) }
+{
+    let said = options(alloc, words)?;
+    grain_after(alloc, before, word, &said)
+}
+
+/// The stop tick after a card that says this one.
+fn span_after(
+    alloc: Global,
+    before: &Option<(u64, bool)>,
+    word: &Word<'_>,
+    span: &Span,
+) -> Result<Option<(u64, bool)>, DeckWhy>
+    ensures { Gives result (span_after before.now word.now span.now) }
+{
+    if before.is_some() {
+        return Err(DeckWhy::SecondTran);
+    }
+    if !is_time(&span.stop) {
+        return Err(DeckWhy::Limit(Which::Seconds, word.to_name(alloc)?));
+    }
+    Ok(Some((span.stop.unsigned_abs(), span.uic)))
+}
+
+/// The stop tick after the words behind `.tran`.
+#[tactic(auto, unfolding(crate::specs::Told::with_tran))]
+fn with_tran(
+    alloc: Global,
+    before: &Option<(u64, bool)>,
+    word: &Word<'_>,
+    words: &mut Words<'_>,
+) -> Result<Option<(u64, bool)>, DeckWhy>
+    ensures { Gives result (with_tran before.now word.now words.old) }
+{
+    let span = tran(alloc, words)?;
+    span_after(alloc, before, word, &span)
+}
+
+/// Whether the card says what to print or plot, which has no effect.
+fn is_output(word: &Word<'_>) -> bool
+    ensures { result ≡ is_output word.now }
+{
+    word.is(".print") || word.is(".plot") || word.is(".probe") || word.is(".save")
+}
+
+/// Whether this is the first word of a card of options.
+fn is_options(word: &Word<'_>) -> bool
+    ensures { result ≡ is_options word.now }
+{
+    word.is(".options") || word.is(".option")
+}
+
+impl Told {
+    /// No card has said anything: the grain is 50 mV.
+    pub fn new(alloc: Global) -> Told
+        ensures { result ≡ nothing }
+    {
+        Told {
+            circuit: Circuit::new(alloc),
+            tables: Tables::new(alloc),
+            initial: Voltages::new(alloc),
+            grain: 50_000,
+            span: None,
+        }
+    }
+
+    /// What one more card makes of it.
+    #[tactic(auto, unfolding(crate::specs::Told::with_words))]
+    pub fn with_card(self, alloc: Global, card: &CardLine) -> Result<Told, DeckWhy>
+        ensures { Gives result (with_words self card.now.line card.now.words) }
+    {
+        let mut words = Words::of(card, 0);
+        let word = words.next().ok_or(DeckWhy::WrongWords)?;
+        if word.is(".table") {
+            let tables = self.tables.with_table(alloc, &mut words)?;
+            return Ok(Told { tables, ..self });
+        }
+        if word.is(".ic") {
+            let initial = self.initial.with_initial(alloc, &mut words)?;
+            return Ok(Told { initial, ..self });
+        }
+        if is_options(&word) {
+            let grain = with_options(alloc, self.grain, &word, &mut words)?;
+            return Ok(Told { grain, ..self });
+        }
+        if word.is(".tran") {
+            let span = with_tran(alloc, &self.span, &word, &mut words)?;
+            return Ok(Told { span, ..self });
+        }
+        if is_output(&word) {
+            return Ok(self);
+        }
+        let element = element(alloc, &mut Words::of(card, 0))?;
+        let circuit = self.circuit.with_element(card.line(), element)?;
+        Ok(Told { circuit, ..self })
+    }
+}
