@@ -29,7 +29,7 @@ use Rattle.deck_reader.specs.Numbers.{numbers, ◌>>=◌}
 use Rattle.deck_reader.specs.Sources.{is_time}
 use Rattle.deck_reader.specs.Tables.{lists_of, table_fault, table_or, table_of, table_limit}
 use Rattle.deck_reader.specs.Dots.{initial, options, tran}
-use Rattle.deck_reader.specs.Circuit.{Circuit, elements_of, node_lines, element_fault, with_placed, with_element}
+use Rattle.deck_reader.specs.Circuit.{Circuit, elements_of, nodes_of, element_fault, with_placed, with_element}
 use Rattle.deck_reader.specs.Told.{with_table, voltage_limit, with_initial, is_grain, grain_after, with_options, span_after, with_tran}
 use Rattle.deck_reader.proofs.InversionLemmas.{steps, passes, holds, faultless, ok_same, all_push}
 use Rattle.deck_reader.proofs.IndexLemmas.{any-map}
@@ -45,7 +45,7 @@ pub record IsFit (circuit : Circuit) : Type 0 where
   pub grounded : list_all is_grounded (elements_of circuit) ≡ true
   pub limits : list_all in_limits (elements_of circuit) ≡ true
   pub few : length (elements_of circuit) ≤ 100000
-  pub few_nodes : length (node_lines circuit) ≤ 100000
+  pub few_nodes : length (nodes_of circuit) ≤ 100000
 
 push_differs : (ns : List Word) (n : Word) → differ ns ≡ true → list_any (bytes_eq n) ns ≡ false → differ (ns ++ n ∷ []) ≡ true
 push_differs ns n apart new = differ-push ns n ∙ (λ i. apart i && not (new i))
@@ -74,7 +74,7 @@ drives_apart ns (Source name plus minus wave) apart grounded free = by (is_groun
     by false false g f = absurd (cc)
 
 fit_more : (circuit : Circuit) (line : ℕ) (e : Element) → IsFit circuit → IsClear circuit e → in_limits e ≡ true → length circuit < 100000
-    → length (node_lines (circuit ++ (line, e) ∷ [])) ≤ 100000 → IsFit (circuit ++ (line, e) ∷ [])
+    → length (nodes_of (circuit ++ (line, e) ∷ [])) ≤ 100000 → IsFit (circuit ++ (line, e) ∷ [])
 fit_more circuit line e fit clear within room few =
     let es = elements_of circuit in
     let more : elements_of (circuit ++ (line, e) ∷ []) ≡ es ++ e ∷ [] = map-append (λ (at : ℕ × Element). at.1) circuit ((line, e) ∷ []) in
@@ -113,11 +113,11 @@ circuit_kept circuit line card next fit within is =
     let fault = faultless (element_fault circuit card) (with_placed circuit line e) next is in
     let clear = is_clear circuit card fault.0 in
     let more = circuit ++ (line, e) ∷ [] in
-    let placed = passes (nat_lt 100000 (length (node_lines more))) (Limit Nodes (name_of e)) (Ok more) next fault.1 in
+    let placed = passes (nat_lt 100000 (length (nodes_of more))) (Limit Nodes (name_of e)) (Ok more) next fault.1 in
     let rest = within_limits (is_named (elements_of circuit) (name_of e)) (is_grounded e) (first_that (is_driven (elements_of circuit)) (driven_of e)) (DuplicateName (name_of e)) (NotGrounded (name_of e)) _ fault.0 in
     let free = roomy card.limit (nat_le 100000 (length circuit)) (in_limits e) (name_of e) rest within in
     subst IsFit (ok_same more next placed.1)
-    (fit_more circuit line e fit clear free.0 (leb-false 100000 (length circuit) free.1) (ltb-false 100000 (length (node_lines more)) placed.0))
+    (fit_more circuit line e fit clear free.0 (leb-false 100000 (length circuit) free.1) (ltb-false 100000 (length (nodes_of more)) placed.0))
 
 -- ---- tables
 

@@ -2,6 +2,7 @@ pub mod WordLemmas
 pub mod DeviceLemmas
 pub mod SourceLemmas
 pub mod BehindLemmas
+pub mod GrainLemmas
 pub mod TableLemmas
 pub mod IndexLemmas
 pub mod CircuitLemmas
@@ -10,3 +11,4 @@ pub mod InversionLemmas
 pub mod ElementLemmas
 pub mod KeptLemmas
 pub mod SoundLemmas
+pub mod LineLemmas

@@ -1,16 +1,14 @@
 -- Cards without a fault leave only causes of nodes to the whole deck.
-use Rattle.std.proofs.Common.{◌≡◌, ℕ, ◌≤◌, ℤ, Bool, true, false, ◌&&◌, ◌||◌, if◌then◌else◌, List, [], ◌∷◌, ◌++◌, length, map, fold, Option, Some, None, is_some, is_none, Result, Ok, Err, refl, sym, ◌∙◌, ap, subst, arith}
+use Rattle.std.proofs.Common.{◌≡◌, ℕ, ℤ, Bool, true, false, ◌&&◌, ◌||◌, if◌then◌else◌, List, [], ◌∷◌, fold, Option, Some, None, is_some, is_none, Result, Ok, Err, refl, sym, ◌∙◌, ap, subst, arith}
 use Rattle.std.specs.Prelude.{codes, slice_get}
 use Rattle.std.specs.Option.{option_or, option_map}
-use Rattle.std.specs.List.{list_all, flat_map}
+use Rattle.std.specs.List.{list_all}
 use Rattle.std.specs.Str.{bytes_eq}
 use Rattle.std.proofs.lemmas.Bool.{and_parts, and_from}
 use Rattle.std.proofs.lemmas.Option.{slice_get_past}
 use Rattle.semantics.specs.declared.element.Element.TheVariants.{Resistor, Capacitor, Source, Mos}
 use Rattle.semantics.specs.Part as part
-use Rattle.semantics.specs.Ground.{is_ground}
-use Rattle.semantics.specs.Deck.{DeckValue, name_of, ends_of, look_up, first_some}
-use Rattle.semantics.specs.Deck as deck
+use Rattle.semantics.specs.Deck.{DeckValue, name_of, look_up, first_some}
 use Rattle.semantics.specs.Valid.{some_grain, short_time, small_volts, is_part, in_limits, has_part}
 use Rattle.deck_lexer.specs.Cards.{Card}
 use Rattle.deck_cards.specs.declared.which.Which.TheVariants.{Elements, Seconds, Grain, Volts}
@@ -27,14 +25,11 @@ use Rattle.deck_reader.specs.declared.told.Told.{Told}
 use Rattle.deck_reader.specs.Words.{Word}
 use Rattle.deck_reader.specs.Numbers.{◌>>=◌}
 use Rattle.deck_reader.specs.Elements.{element}
-use Rattle.deck_reader.specs.Circuit.{Circuit, elements_of, with_node, with_ends, node_lines, with_element}
+use Rattle.deck_reader.specs.Circuit.{Circuit, elements_of, nodes_of, with_element}
 use Rattle.deck_reader.specs.Told.{nothing, with_table, with_initial, is_options, with_options, with_tran, is_output, with_words}
 use Rattle.deck_reader.specs.Reading.{at, at_line, told_after, missing_part, no_such_model, deck_of, node_cause}
 use Rattle.deck_reader.specs.Sound.{IsSound}
 use Rattle.deck_cards.proofs.Named.{same_name}
-use Rattle.std.proofs.lemmas.List.{map-append, length-map}
-use Rattle.std.proofs.lemmas.Grind.{fold-append}
-use Rattle.deck_reader.proofs.IndexLemmas.{look_up-names}
 use Rattle.deck_reader.proofs.InversionLemmas.{steps, ok_same}
 use Rattle.deck_reader.proofs.ElementLemmas.{element_in}
 use Rattle.deck_reader.proofs.KeptLemmas.{IsFit, AreTables, AreSmall, IsShort, circuit_kept, tables_kept, voltages_kept, grain_kept, span_kept}
@@ -50,7 +45,7 @@ pub record IsKept (told : Told) : Type 0 where
   pub short : IsShort told.span
 
 nothing_kept : IsKept nothing
-unfolding node_lines
+unfolding nodes_of
 nothing_kept = record {
   fit = record { names = refl; driven = refl; grounded = refl; limits = refl; few = omega arith; few_nodes = omega arith };
   whole_tables = refl;
@@ -198,32 +193,6 @@ puts_pass {A = A} f qs (p ∷ ps) all more =
     let parts = and_parts (f p.1) (list_all (λ (r : Word × A). f r.1) ps) more in
     puts_pass f (put qs p) ps (put_passes f qs p all parts.0) parts.1
 
--- ---- nodes
-
-node_named : (line : ℕ) (seen : List (Word × ℕ)) (name : Word) → map (λ p. p.0) (with_node line seen name) ≡ deck.with_node (map (λ p. p.0) seen) name
-node_named line seen name = by (is_ground name) (is_some (look_up name seen)) ∙ ap (λ b. if is_ground name || b then map (λ p. p.0) seen else map (λ p. p.0) seen ++ name ∷ []) (sym (look_up-names name seen))
-  where
-    by : (a b : Bool) → map (λ (p : Word × ℕ). p.0) (if a || b then seen else seen ++ (name, line) ∷ []) ≡ (if a || b then map (λ p. p.0) seen else map (λ p. p.0) seen ++ name ∷ [])
-    by true b = refl
-    by false true = refl
-    by false false = map-append (λ (p : Word × ℕ). p.0) seen ((name, line) ∷ [])
-
-ends_named : (line : ℕ) (seen : List (Word × ℕ)) (ns : List Word) → map (λ p. p.0) (fold (with_node line) seen ns) ≡ fold deck.with_node (map (λ p. p.0) seen) ns
-ends_named line seen [] = refl
-ends_named line seen (n ∷ ns) = ends_named line (with_node line seen n) ns ∙ ap (λ l. fold deck.with_node l ns) (node_named line seen n)
-
-lines_named : (seen : List (Word × ℕ)) (circuit : Circuit) → map (λ p. p.0) (fold with_ends seen circuit) ≡ fold deck.with_node (map (λ p. p.0) seen) (flat_map ends_of (elements_of circuit))
-lines_named seen [] = refl
-lines_named seen ((line, e) ∷ circuit) =
-    lines_named (with_ends seen (line, e)) circuit
-    ∙ ap (λ l. fold deck.with_node l (flat_map ends_of (elements_of circuit))) (ends_named line seen (ends_of e))
-    ∙ sym (fold-append deck.with_node (map (λ p. p.0) seen) (ends_of e) (flat_map ends_of (elements_of circuit)))
-
-few_nodes : (circuit : Circuit) → length (node_lines circuit) ≤ 100000 → length (fold deck.with_node [] (flat_map ends_of (elements_of circuit))) ≤ 100000
-unfolding node_lines
-few_nodes circuit few =
-    omega (arith, ap length (lines_named [] circuit), length-map {B = Word} (fold with_ends [] circuit) (λ (p : Word × ℕ). p.0))
-
 -- ---- no other cause
 
 short_stop : (told : Told) (span : ℕ × Bool) → IsShort told.span → told.span ≡ Some span → short_time span.0 ≡ true
@@ -231,7 +200,7 @@ short_stop told span short is = subst IsShort is short
 
 nodes_alone : (told : Told) (title : List ℕ) (span : ℕ × Bool) → IsKept told → told.span ≡ Some span → no_such_model told ≡ None
     → deck_cause (deck_of title told span) ≡ node_cause (deck_of title told span)
-unfolding deck_cause node_cause deck_of settled value_limit many_elements many_nodes no_such_model
+unfolding deck_cause node_cause deck_of settled value_limit many_elements many_nodes no_such_model nodes_of
 nodes_alone told title span kept is none =
     let d : DeckValue = deck_of title told span in
     let es = elements_of told.circuit in
@@ -244,7 +213,7 @@ nodes_alone told title span kept is none =
     let elements : first_some element_limit es ≡ None = none_first in_limits element_limit element_none es fit.limits in
     let short = short_stop told span kept.short is in
     let counted : option_map (λ e. edit.Limit Elements (name_of e)) (slice_get es 100000) ≡ None = ap (option_map (λ e. edit.Limit Elements (name_of e))) (slice_get_past es 100000 fit.few) in
-    let nodes = few_none es [] (few_nodes told.circuit fit.few_nodes) in
+    let nodes = few_none es [] fit.few_nodes in
     λ i. option_or (adding i) (option_or (uncapped d) (option_or (no_initial d)
     (option_or (option_or (limit (short i) Seconds (codes ".tran")) (option_or (limit (kept.fine i) Grain (codes ".options")) (option_or (parts i) (option_or (initial i) (option_or (elements i) None)))))
     (option_or (counted i) (option_or (nodes i) (option_or (node_farads d) (option_or (many_terminals d) None)))))))

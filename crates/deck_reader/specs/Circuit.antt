@@ -1,8 +1,9 @@
 -- The elements that the cards of a deck have said so far, and what one more makes of them.
-use Rattle.std.specs.Prelude.{ℕ, nat_le, nat_lt, List, [], ◌∷◌, ◌++◌, length, map, fold, not, ◌||◌, if◌then◌else◌, Option, Some, None, is_some, Result, Ok, Err}
+use Rattle.std.specs.Prelude.{ℕ, nat_le, nat_lt, List, [], ◌∷◌, ◌++◌, length, map, fold, not, if◌then◌else◌, Option, Some, None, unwrap_or, Result, Ok, Err}
+use Rattle.std.specs.List.{flat_map, list_any}
+use Rattle.std.specs.Str.{bytes_eq}
 use Rattle.semantics.specs.declared.element.Element.{Element}
-use Rattle.semantics.specs.Ground.{is_ground}
-use Rattle.semantics.specs.Deck.{name_of, ends_of, look_up}
+use Rattle.semantics.specs.Deck.{name_of, ends_of, with_node, first_some}
 use Rattle.semantics.specs.Valid.{is_grounded, driven_of}
 use Rattle.deck_cards.specs.declared.which.Which.TheVariants.{Elements, Nodes}
 use Rattle.deck_cards.specs.Causes.{first_that, is_named, is_driven}
@@ -18,16 +19,17 @@ Circuit = List (ℕ × Element)
 abbrev pub elements_of : Circuit → List Element
 elements_of circuit = map (λ at. at.1) circuit
 
--- the nodes with one more of this line, where it is new and not ground
-abbrev pub with_node : ℕ → List (Word × ℕ) → Word → List (Word × ℕ)
-with_node line seen name = if is_ground name || is_some (look_up name seen) then seen else seen ++ (name, line) ∷ []
+-- the nodes of these elements but ground, by first appearance
+unfoldable pub nodes_of : Circuit → List Word
+nodes_of circuit = fold with_node [] (flat_map ends_of (elements_of circuit))
 
-abbrev pub with_ends : List (Word × ℕ) → ℕ × Element → List (Word × ℕ)
-with_ends seen at = fold (with_node at.0) seen (ends_of at.1)
+-- the line of a card, where it has this node at an end
+abbrev pub end_line : Word → ℕ × Element → Option ℕ
+end_line node at = if list_any (bytes_eq node) (ends_of at.1) then Some at.0 else None
 
--- the nodes by first appearance, each with the line of the first card that has it at an end
-unfoldable pub node_lines : Circuit → List (Word × ℕ)
-node_lines circuit = fold with_ends [] circuit
+-- the line of the first card that has this node at an end
+unfoldable pub line_of : Circuit → Word → ℕ
+line_of circuit node = unwrap_or (first_some (end_line node) circuit) 0
 
 -- why an element can't stand behind these
 unfoldable pub element_fault : Circuit → ElementCard → Option DeckWhy
@@ -46,7 +48,7 @@ element_fault circuit card =
 unfoldable pub with_placed : Circuit → ℕ → Element → Result Circuit DeckWhy
 with_placed circuit line element =
     let more = circuit ++ (line, element) ∷ [] in
-    if nat_lt 100000 (length (node_lines more)) then Err (Limit Nodes (name_of element)) else Ok more
+    if nat_lt 100000 (length (nodes_of more)) then Err (Limit Nodes (name_of element)) else Ok more
 
 -- the elements with that of one more card
 unfoldable pub with_element : Circuit → ℕ → ElementCard → Result Circuit DeckWhy

@@ -1,5 +1,6 @@
 -- What the cards `.ic`, `.options` and `.tran` say, from the words behind the first.
-use Rattle.std.specs.Prelude.{◌-◌, nat_lt, ℤ, pos, List, [], ◌∷◌, length, take, Bool, true, false, not, ◌&&◌, ◌||◌, if◌then◌else◌, Option, Some, None, Result, Ok, Err, codes}
+use Rattle.std.specs.Prelude.{◌-◌, nat_lt, ℤ, pos, List, [], ◌∷◌, length, take, Bool, true, false, ◌&&◌, ◌||◌, if◌then◌else◌, fold, Option, Some, None, Result, Ok, Err, codes}
+use Rattle.std.specs.Option.{option_map}
 use Rattle.std.specs.Str.{bytes_eq}
 use Rattle.spice_num.specs.declared.units.Unit.TheVariants.{Time, Volt}
 use Rattle.deck_reader.specs.declared.why.DeckWhy.{DeckWhy}
@@ -39,23 +40,25 @@ initial words = if are_triples words then voltages_of words else Err WrongWords
 abbrev pub is_grain : Word → Bool
 is_grain word = bytes_eq word (codes "grain")
 
--- a word `grain` takes the next as its value, so none stands last
-unfoldable pub takes_value : Bool → List Word → Bool
-takes_value after_grain [] = after_grain
-takes_value after_grain (word ∷ words) = takes_value (not after_grain && is_grain word) words
+-- the values of `grain`, each the word behind one; None where the last has none. Every other word is skipped
+unfoldable pub grain_values : List Word → Option (List Word)
+grain_values [] = Some []
+grain_values (word ∷ []) = if is_grain word then None else Some []
+grain_values (word ∷ next ∷ words) =
+    if is_grain word then option_map (λ values. next ∷ values) (grain_values words) else grain_values (next ∷ words)
 
--- the last grain, where this one stands before; every other word is skipped
-unfoldable pub grain_behind : Option ℤ → Bool → List Word → Result (Option ℤ) DeckWhy
-grain_behind last after_grain [] = Ok last
-grain_behind last after_grain (word ∷ words) =
-    if after_grain
-    then (do
-      z ← number Volt word
-      grain_behind (Some z) false words)
-    else grain_behind last (is_grain word) words
+-- the last of these
+abbrev pub last_of : List ℤ → Option ℤ
+last_of zs = fold (λ before z. Some z) None zs
 
+-- the last grain, where there is one
 unfoldable pub options : List Word → Result (Option ℤ) DeckWhy
-options words = if takes_value false words then Err WrongWords else grain_behind None false words
+options words = elim (grain_values words) [
+  | None ↦ Err WrongWords
+  | Some values ↦ do
+    grains ← numbers Volt values
+    Ok (last_of grains)
+]
 
 -- ---- .tran
 

@@ -12,7 +12,7 @@ abbrev pub ◌>>=◌ : {A B E : Type 0} → Result A E → (A → Result B E) �
 Ok x >>= f = f x
 Err e >>= f = Err e
 
--- the answer is what is said; only where memory is wanting it may be that alone
+-- the answer is what is said, or want of memory, which may come at any time
 abbrev pub Gives : {A : Type 0} → Result A DeckWhy → Result A DeckWhy → Type 0
 Gives (Ok x) said = said ≡ Ok x
 Gives (Err why) said = (why ≡ Memory) ⊎ (said ≡ Err why)

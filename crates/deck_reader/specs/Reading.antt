@@ -1,5 +1,5 @@
 -- The deck that a text says, or its first fault: that of the first card at fault, else that of its lines, else that of the whole deck.
-use Rattle.std.specs.Prelude.{◌≡◌, ℕ, List, [], ◌∷◌, take_while, Bool, not, ◌==◌, if◌then◌else◌, Option, Some, None, is_none, unwrap_or, Result, Ok, Err, ◌⊎◌}
+use Rattle.std.specs.Prelude.{◌≡◌, ℕ, List, [], ◌∷◌, take_while, Bool, not, ◌==◌, if◌then◌else◌, Option, Some, None, is_none, Result, Ok, Err, ◌⊎◌}
 use Rattle.std.specs.Option.{option_and_then}
 use Rattle.semantics.specs.declared.element.Element.{Element}
 use Rattle.semantics.specs.declared.element.Element.TheVariants.{Resistor, Capacitor, Source, Mos}
@@ -20,7 +20,7 @@ use Rattle.deck_reader.specs.declared.why.DeckRefusal.{DeckRefusal}
 use Rattle.deck_reader.specs.declared.told.Told.{Told}
 use Rattle.deck_reader.specs.Words.{Word}
 use Rattle.deck_reader.specs.Numbers.{◌>>=◌}
-use Rattle.deck_reader.specs.Circuit.{elements_of, node_lines}
+use Rattle.deck_reader.specs.Circuit.{elements_of, line_of}
 use Rattle.deck_reader.specs.Told.{nothing, with_words}
 
 -- a fault at this line
@@ -75,24 +75,20 @@ missing_part tables (line, Source name plus minus wave) = None
 unfoldable pub no_such_model : Told → Option DeckRefusal
 no_such_model told = first_some (missing_part told.tables) told.circuit
 
--- the line of the first card that has this node at an end
-abbrev pub line_of : List (Word × ℕ) → Word → ℕ
-line_of lines node = unwrap_or (look_up node lines) 0
-
--- a cause of a node, at that line
-abbrev pub node_refusal : List (Word × ℕ) → EditRefusal → Option DeckRefusal
-node_refusal lines (edit.Uncapped node) = Some (at (line_of lines node) (Uncapped node))
-node_refusal lines (edit.NoInitial node) = Some (at (line_of lines node) (NoInitial node))
-node_refusal lines (edit.Limit which node) = Some (at (line_of lines node) (Limit which node))
-node_refusal lines _ = None
+-- a cause of a node, at the line that the node has
+abbrev pub node_refusal : (Word → ℕ) → EditRefusal → Option DeckRefusal
+node_refusal line (edit.Uncapped node) = Some (at (line node) (Uncapped node))
+node_refusal line (edit.NoInitial node) = Some (at (line node) (NoInitial node))
+node_refusal line (edit.Limit which node) = Some (at (line node) (Limit which node))
+node_refusal line _ = None
 
 -- the first cause of a free node: no capacitance, no initial voltage, too much capacitance, too many ends
 unfoldable pub node_cause : DeckValue → Option EditRefusal
 node_cause d = first_of (uncapped d ∷ no_initial d ∷ node_farads d ∷ many_terminals d ∷ [])
 
 -- the deck, or the first fault of its nodes, which have these lines
-unfoldable pub sound : List (Word × ℕ) → DeckValue → Result DeckValue DeckRefusal
-sound lines d = elim (option_and_then (node_refusal lines) (node_cause d)) [ Some refusal ↦ Err refusal | None ↦ Ok d ]
+unfoldable pub sound : (Word → ℕ) → DeckValue → Result DeckValue DeckRefusal
+sound line d = elim (option_and_then (node_refusal line) (node_cause d)) [ Some refusal ↦ Err refusal | None ↦ Ok d ]
 
 -- the deck that is told in a text of this title that ends at this line, or its first fault as a whole
 unfoldable pub whole : List ℕ → ℕ → Told → Result DeckValue DeckRefusal
@@ -100,7 +96,7 @@ whole title end told = elim told.span [
   | None ↦ Err (at end NoTran)
   | Some span ↦ elim (no_such_model told) [
     | Some refusal ↦ Err refusal
-    | None ↦ sound (node_lines told.circuit) (deck_of title told span)
+    | None ↦ sound (line_of told.circuit) (deck_of title told span)
   ]
 ]
 
@@ -122,7 +118,7 @@ deck_in text = do
   told ← told_after nothing (deck_cards text)
   deck_or text told
 
--- the answer is what the text says; only where memory is wanting it may be that alone, with line 0
+-- the answer is what the text says, or want of memory with line 0, which may come at any time
 abbrev pub Reads : {A : Type 0} → Result A DeckRefusal → Result A DeckRefusal → Type 0
 Reads (Ok x) said = said ≡ Ok x
 Reads (Err refusal) said = (refusal ≡ at 0 Memory) ⊎ (said ≡ Err refusal)

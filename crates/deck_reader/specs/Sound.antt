@@ -1,4 +1,4 @@
--- Cards without a fault leave only causes of nodes to the whole deck.
+-- What the body knows of cards without a fault: they leave only causes of nodes to the whole deck. It defines nothing of a deck.
 use Rattle.std.specs.Prelude.{◌≡◌, ℕ, Bool, List, Some, None, ◌⊎◌}
 use Rattle.deck_cards.specs.declared.edit_refusal.EditRefusal.{EditRefusal}
 use Rattle.deck_cards.specs.Causes.{deck_cause}
@@ -13,6 +13,6 @@ pub record IsSound (told : Told) : Type 0 where
   pub nodes_alone : (title : List ℕ) (span : ℕ × Bool) → told.span ≡ Some span → no_such_model told ≡ None
       → deck_cause (deck_of title told span) ≡ node_cause (deck_of title told span)
 
--- the refusal of a cause of a node, or want of memory
-abbrev pub Tells : DeckRefusal → List (Word × ℕ) → EditRefusal → Type 0
-Tells refusal lines cause = (refusal ≡ at 0 Memory) ⊎ (node_refusal lines cause ≡ Some refusal)
+-- the refusal of a cause of a node, at the line that the node has, or want of memory
+abbrev pub Tells : DeckRefusal → (Word → ℕ) → EditRefusal → Type 0
+Tells refusal line cause = (refusal ≡ at 0 Memory) ⊎ (node_refusal line cause ≡ Some refusal)

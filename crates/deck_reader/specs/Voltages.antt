@@ -1,4 +1,4 @@
--- Voltages that are looked at from the last to the first.
+-- What the body keeps of voltages that it looks at from the last to the first. It defines nothing of a deck.
 use Rattle.std.specs.Prelude.{◌≡◌, ℤ, List, Option, is_some}
 use Rattle.std.specs.List.{list_any}
 use Rattle.std.specs.Str.{bytes_eq}

@@ -4,7 +4,8 @@ ghost use Rattle.semantics.specs.Deck.{name_of};
 ghost use Rattle.semantics.specs.Valid as valid;
 ghost use Rattle.deck_cards.specs.Causes.{first_that, is_named, is_driven};
 ghost use Rattle.deck_reader.specs.Numbers.{Gives};
-ghost use Rattle.deck_reader.specs.Circuit.{elements_of, element_fault, with_placed, with_element, node_lines};
+ghost use Rattle.deck_reader.specs.Circuit.{elements_of, element_fault, with_placed, with_element};
+ghost use Rattle.deck_reader.specs.Indexed.{node_lines};
 
 use crate::element::ElementCard;
 use crate::ends::{is_grounded, name_of};
@@ -60,7 +61,7 @@ fn put(placed: &mut Vec<(u32, Element)>, line: u32, element: Element) -> Result<
 
 impl Circuit {
     /// No element.
-    #[tactic(auto, unfolding(crate::specs::Circuit::node_lines))]
+    #[tactic(auto, unfolding(crate::specs::Indexed::node_lines))]
     pub fn new(alloc: Global) -> Circuit
         ensures { result ≡ [] }
     {

@@ -8,8 +8,7 @@ ghost use Rattle.semantics.specs.Deck as deck;
 ghost use Rattle.semantics.specs.Deck.{look_up};
 ghost use Rattle.semantics.specs.Valid as valid;
 ghost use Rattle.deck_cards.specs.Causes.{first_that};
-ghost use Rattle.deck_reader.specs.Circuit.{with_node};
-ghost use Rattle.deck_reader.specs.Reading.{line_of};
+ghost use Rattle.deck_reader.specs.Indexed.{with_line, noted_line};
 
 use indexmap::{IndexMap, IndexSet};
 use semantics::{Element, Name};
@@ -65,7 +64,7 @@ fn is_noted(nodes: &IndexMap<Name, u32>, name: &Name) -> bool
 
 /// Notes the line of a node, where it is new and not ground.
 fn note_node(nodes: &mut IndexMap<Name, u32>, name: &Name, line: u32) -> Result<(), AllocError>
-    ensures { OnOk result (nodes.new.entries ≡ with_node line nodes.old.entries name.now) }
+    ensures { OnOk result (nodes.new.entries ≡ with_line line nodes.old.entries name.now) }
 {
     if name.is_ground() || is_noted(nodes, name) {
         return Ok(());
@@ -80,7 +79,7 @@ pub fn note_ends(
     element: &Element,
     line: u32,
 ) -> Result<(), AllocError>
-    ensures { OnOk result (nodes.new.entries ≡ fold (with_node line) nodes.old.entries (deck.ends_of element.now)) }
+    ensures { OnOk result (nodes.new.entries ≡ fold (with_line line) nodes.old.entries (deck.ends_of element.now)) }
 {
     match element {
         Element::Resistor { first, second, .. } => {
@@ -110,7 +109,7 @@ pub fn note_ends(
 
 /// The line that is noted of a node, 0 where none is.
 pub fn line_of(nodes: &IndexMap<Name, u32>, name: &Name) -> u32
-    ensures { result ≡ line_of nodes.now.entries name.now }
+    ensures { result ≡ noted_line nodes.now.entries name.now }
 {
     match nodes.get(name) {
         None => 0,

@@ -24,6 +24,3 @@ mod words;
 pub use element::{read_element, read_wave};
 pub use reader::read;
 pub use why::{DeckRefusal, DeckWhy};
-
-#[cfg(test)]
-mod tests;

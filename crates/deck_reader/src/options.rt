@@ -1,8 +1,8 @@
 //! The `.options` card, of which only the grain has an effect.
 
-ghost use Rattle.std.specs.Prelude.{◌≡◌, false, None};
+ghost use Rattle.std.specs.Prelude.{◌≡◌, false, is_none};
 ghost use Rattle.deck_reader.specs.Numbers.{Gives};
-ghost use Rattle.deck_reader.specs.Dots.{takes_value, grain_behind, options};
+ghost use Rattle.deck_reader.specs.Dots.{grain_values, options};
 
 use crate::number::number;
 use crate::why::DeckWhy;
@@ -11,9 +11,9 @@ use spice_num::Unit;
 use std::alloc::Global;
 
 /// Whether the last word is a `grain` that has no value.
-#[tactic(auto, unfolding(crate::specs::Dots::takes_value))]
-fn takes_value(words: &mut Words<'_>) -> bool
-    ensures { result ≡ takes_value false words.old }
+#[tactic(auto, using(crate::proofs::GrainLemmas::wants_is), unfolding(crate::proofs::GrainLemmas::wants_value))]
+fn wants_value(words: &mut Words<'_>) -> bool
+    ensures { result ≡ is_none (grain_values words.old) }
 {
     let mut after_grain = false;
     while let Some(word) = words.next() {
@@ -22,10 +22,11 @@ fn takes_value(words: &mut Words<'_>) -> bool
     after_grain
 }
 
-/// The last grain that words say.
-#[tactic(auto, unfolding(crate::specs::Dots::grain_behind))]
+/// The last grain that words say, of which each `grain` has a value.
+#[tactic(auto, using(crate::proofs::GrainLemmas::options_is), unfolding(crate::proofs::GrainLemmas::grain_behind))]
 fn last_grain(alloc: Global, words: &mut Words<'_>) -> Result<Option<i64>, DeckWhy>
-    ensures { Gives result (grain_behind None false words.old) }
+    requires { is_none (grain_values words.old) ≡ false }
+    ensures { Gives result (options words.old) }
 {
     let mut last = None;
     let mut after_grain = false;
@@ -45,7 +46,7 @@ fn last_grain(alloc: Global, words: &mut Words<'_>) -> Result<Option<i64>, DeckW
 pub fn options(alloc: Global, words: &mut Words<'_>) -> Result<Option<i64>, DeckWhy>
     ensures { Gives result (options words.old) }
 {
-    if takes_value(&mut words.copy()) {
+    if wants_value(&mut words.copy()) {
         return Err(DeckWhy::WrongWords);
     }
     last_grain(alloc, words)

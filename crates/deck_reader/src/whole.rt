@@ -5,7 +5,8 @@ ghost use Rattle.semantics.specs.Deck.{first_some};
 ghost use Rattle.deck_cards.specs.Causes.{deck_cause};
 ghost use Rattle.deck_cards.specs.Settled.{settled};
 ghost use Rattle.deck_reader.specs.Reading.{Reads, missing_part, no_such_model, told_deck, deck_of, node_cause, sound, whole};
-ghost use Rattle.deck_reader.specs.Circuit.{node_lines};
+ghost use Rattle.deck_reader.specs.Circuit.{line_of};
+ghost use Rattle.deck_reader.specs.Indexed.{node_lines, noted_line};
 ghost use Rattle.deck_reader.specs.Sound.{IsSound, Tells};
 
 use crate::index::line_of;
@@ -59,7 +60,7 @@ fn first_missing(
 /// The refusal of a cause that is of a node, at the line of the first card that has the node at an
 /// end.
 fn node_refusal(lines: &IndexMap<Name, u32>, cause: EditRefusal) -> DeckRefusal
-    ensures { Tells result lines.now.entries cause }
+    ensures { Tells result (noted_line lines.now.entries) cause }
 {
     match cause {
         EditRefusal::Uncapped(node) => DeckRefusal {
@@ -85,7 +86,7 @@ fn node_refusal(lines: &IndexMap<Name, u32>, cause: EditRefusal) -> DeckRefusal
 #[tactic(auto, unfolding(crate::specs::Reading::sound))]
 fn sound(alloc: Global, parts: DeckParts, lines: &IndexMap<Name, u32>) -> Result<Deck, DeckRefusal>
     requires { deck_cause (settled parts) ≡ node_cause (settled parts) }
-    ensures { Reads result (sound lines.now.entries (settled parts)) }
+    ensures { Reads result (sound (noted_line lines.now.entries) (settled parts)) }
 {
     match Deck::of(alloc, parts) {
         Ok(deck) => Ok(deck),
@@ -133,7 +134,7 @@ fn with_nodes(
     told: Told,
 ) -> Result<Deck, DeckRefusal>
     requires { deck_cause (deck_of title told span) ≡ node_cause (deck_of title told span) }
-    ensures { Reads result (sound (node_lines told.circuit) (deck_of title told span)) }
+    ensures { Reads result (sound (line_of told.circuit) (deck_of title told span)) }
 {
     let (parts, lines) = take_apart(alloc, title, span, told)?;
     sound(alloc, parts, &lines)

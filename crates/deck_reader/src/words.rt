@@ -165,12 +165,10 @@ impl<'a> Words<'a> {
         ensures room { IfSome result (λ place. place + 1 < 2 ^ 64) }
     {
         let mut words = self.copy();
-        let mut place = 0;
-        while let Some(word) = words.next() {
-            if word.is(text) {
+        for place in 0..self.len() {
+            if words.next()?.is(text) {
                 return Some(place);
             }
-            place += 1;
         }
         None
     }

@@ -1,8 +1,8 @@
 //! What a deck that is read says of itself.
 
 use super::joined;
-use crate::read;
 use deck_cards::{Deck, Part};
+use deck_reader::read;
 use semantics::{Element, Wave};
 use std::alloc::Global;
 use std::fmt::Write;

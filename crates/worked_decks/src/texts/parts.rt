@@ -1,8 +1,8 @@
 //! Elements and voltages from the words of a line, from a place on.
 
 use super::said::{write_element, write_wave};
-use crate::{read_element, read_wave};
 use deck_lexer::CardLine;
+use deck_reader::{read_element, read_wave};
 use std::alloc::Global;
 use std::fmt::Write;
 use std::test::Fail;

@@ -1,3 +1,5 @@
+//! The answers to texts of decks: the deck that is read, or its first fault.
+
 mod capacitors;
 mod devices;
 mod grown;
@@ -13,7 +15,7 @@ mod tables;
 mod tran;
 mod whole;
 
-use crate::read;
+use deck_reader::read;
 use std::alloc::{AllocError, Global};
 use std::fmt::Write;
 use std::test::Fail;
