@@ -15,6 +15,3 @@ pub use events::Events;
 pub use semantics::{Event, Line};
 pub use ticks::{Ran, tick_run};
 pub use waves::Waves;
-
-#[cfg(test)]
-mod tests;

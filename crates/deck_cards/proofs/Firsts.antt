@@ -1,17 +1,13 @@
 -- The first of some causes: in a list of them, and over the items of a list one after another.
-use Rattle.std.proofs.Common.{◌≡◌, ℕ, ◌+◌, ◌<◌, ◌≤◌, zero, suc, Bool, true, false, not, ◌&&◌, if◌then◌else◌, List, [], ◌∷◌, length, drop, get_or, Option, Some, None, is_none, Result, Ok, Err, ℤ, nat_le, refl, sym, ◌∙◌, ap, subst, arith}
+use Rattle.std.proofs.Common.{◌≡◌, ℕ, ◌+◌, ◌<◌, ◌≤◌, zero, suc, Bool, true, false, not, ◌&&◌, if◌then◌else◌, List, [], ◌∷◌, ◌++◌, length, drop, get_or, Option, Some, None, is_none, Result, Ok, Err, refl, sym, ◌∙◌, ap, subst, arith}
 use Rattle.std.specs.Option.{option_or, option_map}
 use Rattle.std.specs.List.{list_all}
 use Rattle.std.specs.Result.{IsErrAnd}
 use Rattle.semantics.specs.Deck.{first_some}
-use Rattle.semantics.specs.Part as part
-use Rattle.semantics.specs.Valid.{is_part, is_grid, rising, small_amps, small_volts}
-use Rattle.deck_cards.specs.declared.which.Which.TheVariants.{Volts, Amps}
 use Rattle.deck_cards.specs.declared.edit_refusal.EditRefusal.{EditRefusal}
 use Rattle.deck_cards.specs.declared.edit_refusal.EditRefusal.TheVariants.{Memory}
 use Rattle.deck_cards.specs.Answers.{Refuses, Answers}
-use Rattle.deck_cards.specs.Causes.{when, first_that, limit, part_limit}
-use Rattle.deck_cards.proofs.Named.{and_both}
+use Rattle.deck_cards.specs.Causes.{when, first_that}
 
 -- want of memory refuses whatever the cause
 pub memory_refuses : (e : EditRefusal) (cause : Option EditRefusal) → e ≡ Memory → Refuses e cause
@@ -41,6 +37,19 @@ first_some-cons {B = B} f x xs = by (f x)
     by : (o : Option B) → elim o [ None ↦ first_some f xs | Some y ↦ Some y ] ≡ option_or o (first_some f xs)
     by None = refl
     by (Some y) = refl
+
+pub or_in : {A : Type 0} (a b c : Option A) → option_or a (option_or b c) ≡ option_or (option_or a b) c
+or_in None b c = refl
+or_in (Some x) b c = refl
+
+-- what is found behind a list with one thing more
+pub first_some-push : {A B : Type 0} (f : A → Option B) (xs : List A) (x : A) → first_some f (xs ++ x ∷ []) ≡ option_or (first_some f xs) (f x)
+first_some-push f [] x = first_some-cons f x [] ∙ or_none (f x)
+first_some-push f (y ∷ ys) x =
+    first_some-cons f y (ys ++ x ∷ [])
+    ∙ ap (option_or (f y)) (first_some-push f ys x)
+    ∙ or_in (f y) (first_some f ys) (f x)
+    ∙ ap (λ o. option_or o (f x)) (sym (first_some-cons f y ys))
 
 drop_at : {A : Type 0} (xs : List A) (i : ℕ) (d : A) → i < length xs → drop i xs ≡ get_or xs i d ∷ drop (suc i) xs
 drop_at [] i d within = absurd (omega arith)
@@ -102,20 +111,6 @@ when_none b x h = ap (λ c. when c x) h
 pub none_map : {A B : Type 0} (f : A → B) (o : Option A) → option_map f o ≡ None → o ≡ None
 none_map f None h = refl
 none_map f (Some x) h = absurd (cc)
-
--- ---- tables
-
--- a table has no threshold outside its limit
-pub table_answers : {A : Type 0} (r : Result A EditRefusal) (name : List ℕ) (gate drain amps : List ℤ) (within : Bool) → is_part (part.Listed gate drain amps) ≡ true
-    → Answers r (limit within Amps name) → within ≡ list_all small_amps amps → Answers r (part_limit (name, part.Listed gate drain amps))
-unfolding part_limit
-table_answers r name gate drain amps within valid h is =
-    let a = and_both (is_grid gate) _ valid in
-    let b = and_both (is_grid drain) _ a.1 in
-    let small = λ (g : List ℤ) (grid : is_grid g ≡ true). (and_both (list_all small_volts g) (rising g) (and_both (nat_le (length g) 256) _ grid).1).0 in
-    let volts : (list_all small_volts gate && list_all small_volts drain) ≡ true = λ i. small gate a.0 i && small drain b.0 i in
-    answers_next r (limit (list_all small_volts gate && list_all small_volts drain) Volts name) _ (ap (λ w. limit w Volts name) volts)
-    (subst (λ o. Answers r o) (ap (λ w. limit w Amps name) is ∙ sym (or_none (limit (list_all small_amps amps) Amps name))) h)
 
 -- what a `?` hands on
 pub handed_on : {A : Type 0} (r : Result A EditRefusal) (e : EditRefusal) (cause : Option EditRefusal) → IsErrAnd r (λ x. x ≡ e) → Refuses e cause → Answers r cause

@@ -4,16 +4,18 @@ use Rattle.std.specs.List.{list_any}
 use Rattle.std.specs.Option.{option_map, option_copied}
 use Rattle.std.specs.Map.{lookup}
 use Rattle.std.specs.Str.{bytes_eq}
+use Rattle.std.proofs.lemmas.List.{append-nil, append_assoc, map-append}
+use Rattle.std.proofs.lemmas.List.Folds.{list_any-append}
 use Rattle.std.proofs.lemmas.Option.{slice_get-map}
 use Rattle.indexmap.specs.IndexMap.{insert_entry, insert_all}
 use Rattle.semantics.specs.Deck.{DeckValue, look_up}
 use Rattle.semantics.specs.Valid.{differ}
 use Rattle.deck_cards.specs.Settled.{put, put_all, settled}
 use Rattle.deck_cards.proofs.Differ.{differ-push}
-use Rattle.deck_cards.proofs.Named.{named_at}
+use Rattle.deck_cards.proofs.Named.{named_at, and_both, or_both, from_not, name_turned}
 
 -- a map puts a pair as the definition does
-put_is : {A : Type 0} (qs : List (List ℕ × A)) (n : List ℕ) (x : A) → insert_entry bytes_eq qs n x ≡ put qs (n, x)
+pub put_is : {A : Type 0} (qs : List (List ℕ × A)) (n : List ℕ) (x : A) → insert_entry bytes_eq qs n x ≡ put qs (n, x)
 put_is [] n x = refl
 put_is (q ∷ qs) n x = λ i. if bytes_eq n q.0 then (q.0, x) ∷ qs else q ∷ put_is qs n x i
 
@@ -100,16 +102,41 @@ keys_put {A = A} (q ∷ qs) p = by (bytes_eq p.0 q.0) (list_any (bytes_eq p.0) (
     by false true ih = ap (λ l. q.0 ∷ l) ih
     by false false ih = ap (λ l. q.0 ∷ l) ih
 
-put_once : {A : Type 0} (qs : List (List ℕ × A)) (p : List ℕ × A) → differ (map (λ q. q.0) qs) ≡ true → differ (map (λ q. q.0) (put qs p)) ≡ true
+pub put_once : {A : Type 0} (qs : List (List ℕ × A)) (p : List ℕ × A) → differ (map (λ q. q.0) qs) ≡ true → differ (map (λ q. q.0) (put qs p)) ≡ true
 put_once {A = A} qs p h = ap differ (keys_put qs p) ∙ by (list_any (bytes_eq p.0) (map (λ (q : List ℕ × A). q.0) qs)) refl
   where
     by : (b : Bool) → list_any (bytes_eq p.0) (map (λ (q : List ℕ × A). q.0) qs) ≡ b → differ (if b then map (λ (q : List ℕ × A). q.0) qs else map (λ (q : List ℕ × A). q.0) qs ++ p.0 ∷ []) ≡ true
     by true e = h
     by false e = differ-push (map (λ (q : List ℕ × A). q.0) qs) p.0 ∙ (λ i. h i && not (e i))
 
-fold_put_once : {A : Type 0} (qs ps : List (List ℕ × A)) → differ (map (λ q. q.0) qs) ≡ true → differ (map (λ q. q.0) (fold put qs ps)) ≡ true
+pub fold_put_once : {A : Type 0} (qs ps : List (List ℕ × A)) → differ (map (λ q. q.0) qs) ≡ true → differ (map (λ q. q.0) (fold put qs ps)) ≡ true
 fold_put_once qs [] h = h
 fold_put_once qs (p ∷ ps) h = fold_put_once (put qs p) ps (put_once qs p h)
+
+-- names that differ stand in the order in which they are put
+put_new : {A : Type 0} (qs : List (List ℕ × A)) (p : List ℕ × A) → list_any (bytes_eq p.0) (map (λ q. q.0) qs) ≡ false → put qs p ≡ qs ++ p ∷ []
+put_new [] p new = refl
+put_new {A = A} (q ∷ qs) p new = by (bytes_eq p.0 q.0) new (put_new qs p)
+  where
+    by : (b : Bool) → (b || list_any (bytes_eq p.0) (map (λ (r : List ℕ × A). r.0) qs)) ≡ false → (list_any (bytes_eq p.0) (map (λ (r : List ℕ × A). r.0) qs) ≡ false → put qs p ≡ qs ++ p ∷ [])
+        → (if b then (q.0, p.1) ∷ qs else q ∷ put qs p) ≡ q ∷ (qs ++ p ∷ [])
+    by true h ih = absurd (cc)
+    by false h ih = ap (λ l. q ∷ l) (ih h)
+
+none_before : (ns ms : List (List ℕ)) (m : List ℕ) → differ (ns ++ m ∷ ms) ≡ true → list_any (bytes_eq m) ns ≡ false
+none_before [] ms m h = refl
+none_before (n ∷ ns) ms m h =
+    let h' = and_both (not (list_any (bytes_eq n) (ns ++ m ∷ ms))) (differ (ns ++ m ∷ ms)) h in
+    let later = or_both (list_any (bytes_eq n) ns) (list_any (bytes_eq n) (m ∷ ms)) (sym (list_any-append (bytes_eq n) ns (m ∷ ms)) ∙ from_not _ h'.0) in
+    let other = or_both (bytes_eq n m) (list_any (bytes_eq n) ms) later.1 in
+    λ i. (name_turned m n ∙ other.0) i || none_before ns ms m h'.1 i
+
+pub puts_apart : {A : Type 0} (qs ps : List (List ℕ × A)) → differ (map (λ q. q.0) (qs ++ ps)) ≡ true → fold put qs ps ≡ qs ++ ps
+puts_apart qs [] h = sym (append-nil qs)
+puts_apart {A = A} qs (p ∷ ps) h =
+    let shift : (qs ++ p ∷ []) ++ ps ≡ qs ++ p ∷ ps = append_assoc qs (p ∷ []) ps in
+    let new = none_before (map (λ (q : List ℕ × A). q.0) qs) (map (λ (q : List ℕ × A). q.0) ps) p.0 (ap differ (sym (map-append (λ (q : List ℕ × A). q.0) qs (p ∷ ps))) ∙ h) in
+    ap (λ l. fold put l ps) (put_new qs p new) ∙ puts_apart (qs ++ p ∷ []) ps (ap (λ l. differ (map (λ (q : List ℕ × A). q.0) l)) shift ∙ h) ∙ shift
 
 settled_is : (d : DeckValue) → (differ (map (λ p. p.0) (settled d).parts) ≡ true) × (differ (map (λ p. p.0) (settled d).initial) ≡ true)
 unfolding settled

@@ -1,5 +1,5 @@
 -- A deck has no cause against it exactly where it is valid, for waves and tables that are what their types say and names that stand once.
-use Rattle.std.proofs.Common.{◌≡◌, ◌∙◌, ℕ, ◌^◌, ◌+◌, ◌≤◌, nat_le, Bool, true, false, not, ◌&&◌, ◌||◌, if◌then◌else◌, List, [], ◌∷◌, length, map, fold, slice_get, None, Some, is_none, is_some, ℤ, pos, negsuc, ◌+ℤ◌, int_lt, int_le, Less, Equal, Greater, codes, refl, sym, ap, inl, inr, arith}
+use Rattle.std.proofs.Common.{◌≡◌, ◌∙◌, ℕ, ◌^◌, ◌+◌, ◌≤◌, nat_le, Bool, true, false, not, ◌&&◌, ◌||◌, if◌then◌else◌, List, [], ◌∷◌, length, map, fold, slice_get, None, is_none, is_some, ℤ, pos, negsuc, ◌+ℤ◌, int_lt, int_le, Less, Equal, Greater, codes, refl, ap, inl, inr, arith}
 use Rattle.std.specs.List.{list_all, flat_map}
 use Rattle.std.specs.Option.{option_or, option_map}
 use Rattle.std.specs.Ordering.{int_eq, is_eq}
@@ -15,12 +15,12 @@ use Rattle.semantics.specs.Valid.{is_valid, has_limits, has_elements, has_nodes,
 use Rattle.semantics.proofs.Limits.{limits}
 use Rattle.deck_cards.specs.declared.edit_refusal.EditRefusal.TheVariants.{Uncapped, NoInitial, Limit}
 use Rattle.deck_cards.specs.declared.which.Which.TheVariants.{Volts, Seconds, Grain, Elements, NodeFarads, Terminals}
-use Rattle.deck_cards.specs.Causes.{limit, adding_cause, uncapped, no_initial, value_limit, many_elements, many_nodes, node_farads, many_terminals, part_limit, element_limit, deck_cause}
+use Rattle.deck_cards.specs.Causes.{limit, limited, adding_cause, uncapped, no_initial, value_limit, many_elements, many_nodes, node_farads, many_terminals, part_limit, element_limit, deck_cause}
 use Rattle.deck_cards.proofs.Added.{can_add, added}
 use Rattle.deck_cards.proofs.Counting.{few_none, none_few}
 use Rattle.deck_cards.proofs.Firsts.{none-or, none_that, that_none, none_map}
 use Rattle.deck_cards.proofs.Named.{and_both, from_not}
-use Rattle.deck_cards.proofs.Within.{limit_none, none_limit, none_first, all_none, element_none, part_none}
+use Rattle.deck_cards.proofs.Within.{limit_none, none_limit, none_first, all_none, limited_none, element_none, part_none}
 
 -- no cause stands
 pub record IsClear (d : DeckValue) : Type 0 where
@@ -156,9 +156,9 @@ valid_clear d valid =
       capped = ap (option_map Uncapped) (of_free (λ n. int_eq (total_farads d n) (pos 0)) (λ n h. (held_parts d n h).0));
       voltages = ap (option_map NoInitial) (of_free (λ n. not d.uic && is_none (look_up n d.initial)) (λ n h. (held_parts d n h).1));
       values = λ i. option_or (limit (t.0 i) Seconds (codes ".tran")) (option_or (limit (t.1 i) Grain (codes ".options"))
-          (option_or (none_first (λ (p : List ℕ × part.Part). is_part p.1) part_limit (λ p h. part_none p.0 p.1 h) d.parts l.parts i)
+          (option_or (none_first (λ (p : List ℕ × part.Part). is_part p.1) (λ p. limited p.0 (part_limit p.1)) (λ p h. limited_none p.0 (part_limit p.1) (part_none p.1 h)) d.parts l.parts i)
           (option_or (none_first (λ (p : List ℕ × ℤ). small_volts p.1) (λ p. limit (small_volts p.1) Volts p.0) (λ p h. limit_none (small_volts p.1) Volts p.0 h) d.initial l.initial i)
-          (option_or (none_first in_limits element_limit element_none d.elements l.values i) None))));
+          (option_or (none_first in_limits (λ e. limited (name_of e) (element_limit e)) (λ e h. limited_none (name_of e) (element_limit e) (element_none e h)) d.elements l.values i) None))));
       elements = ap (option_map (λ e. Limit Elements (name_of e))) (slice_get_past d.elements 100000 l.few_elements);
       nodes = few_none d.elements [] l.few_nodes;
       farads = ap (option_map (Limit NodeFarads)) (of_free (λ n. not (int_le (total_farads d n) (pos (10 ^ 12)))) (λ n h. (held_parts d n h).2));
@@ -172,7 +172,7 @@ clear_valid d clear parts_differ parts initial_differ elements =
     let can = can_add d [] d.elements clear.adding refl refl in
     let stop = none-or (limit (short_time d.stop) Seconds (codes ".tran")) _ clear.values in
     let grain = none-or (limit (some_grain d.grain) Grain (codes ".options")) _ stop.1 in
-    let tables = none-or (first_some part_limit d.parts) _ grain.1 in
+    let tables = none-or (first_some (λ (p : List ℕ × part.Part). limited p.0 (part_limit p.1)) d.parts) _ grain.1 in
     let voltages = none-or (first_some (λ (p : List ℕ × ℤ). limit (small_volts p.1) Volts p.0) d.initial) _ tables.1 in
     let small = all_none (λ (p : List ℕ × ℤ). small_volts p.1) (λ p. limit (small_volts p.1) Volts p.0) (λ p h. none_limit (small_volts p.1) Volts p.0 h) d.initial voltages.0 in
     let free = free_nodes d in

@@ -7,12 +7,11 @@ use Rattle.semantics.specs.declared.element.Element.TheVariants.{Resistor, Capac
 use Rattle.semantics.specs.Part as part
 use Rattle.semantics.specs.Points.{rising_times}
 use Rattle.semantics.specs.Deck.{first_some}
-use Rattle.semantics.specs.Valid.{small_volts, small_vto, some_gain, some_ohms, some_farads, some_metres, short_time, in_limits, is_grid, is_part, rising}
-use Rattle.deck_cards.specs.declared.edit_refusal.EditRefusal.{EditRefusal}
+use Rattle.semantics.specs.Valid.{small_volts, small_vto, some_gain, some_ohms, some_farads, some_metres, short_time, small_amps, in_limits, is_grid, is_part, rising}
 use Rattle.deck_cards.specs.declared.which.Which.{Which}
 use Rattle.deck_cards.specs.declared.which.Which.TheVariants.{Volts, Seconds, Gain, Amps}
-use Rattle.deck_cards.specs.Causes.{limit, point_limit, part_limit, element_limit}
-use Rattle.deck_cards.proofs.Firsts.{first_some-cons, none-or}
+use Rattle.deck_cards.specs.Causes.{limit, outside, limited, point_limit, part_limit, element_limit}
+use Rattle.deck_cards.proofs.Firsts.{first_some-cons, none-or, or_none}
 use Rattle.deck_cards.proofs.Named.{and_both}
 
 pub limit_none : (b : Bool) (w : Which) (n : List ℕ) → b ≡ true → limit b w n ≡ None
@@ -42,34 +41,50 @@ all_none p f each (x ∷ xs) none =
 
 -- ---- one value
 
-points_none : (n : List ℕ) (points : List (ℕ × ℤ)) → list_all (λ p. short_time p.0 && small_volts p.1) points ≡ true → first_some (point_limit n) points ≡ None
-points_none n points all = none_first (λ p. short_time p.0 && small_volts p.1) (point_limit n) one points all
+within_none : (b : Bool) (w : Which) → b ≡ true → outside b w ≡ None
+within_none b w h = ap (λ c. outside c w) h
+
+points_none : (points : List (ℕ × ℤ)) → list_all (λ p. short_time p.0 && small_volts p.1) points ≡ true → first_some point_limit points ≡ None
+points_none points all = none_first (λ p. short_time p.0 && small_volts p.1) point_limit one points all
   where
-    one : (p : ℕ × ℤ) → (short_time p.0 && small_volts p.1) ≡ true → point_limit n p ≡ None
+    one : (p : ℕ × ℤ) → (short_time p.0 && small_volts p.1) ≡ true → point_limit p ≡ None
     one p h = let b = and_both (short_time p.0) (small_volts p.1) h in λ i. point_by (b.0 i) (b.1 i)
       where
-        point_by : Bool → Bool → Option EditRefusal
-        point_by s v = option_or (limit s Seconds n) (option_or (limit v Volts n) None)
+        point_by : Bool → Bool → Option Which
+        point_by s v = option_or (outside s Seconds) (option_or (outside v Volts) None)
 
 pub element_none : (e : Element) → in_limits e ≡ true → element_limit e ≡ None
 unfolding element_limit
-element_none (Resistor name first second ohms) h = limit_none (some_ohms ohms) _ name h
-element_none (Capacitor name plus minus farads) h = limit_none (some_farads farads) _ name h
+element_none (Resistor name first second ohms) h = within_none (some_ohms ohms) _ h
+element_none (Capacitor name plus minus farads) h = within_none (some_farads farads) _ h
 element_none (Source name plus minus wave) h =
     let a = and_both (not (length wave == 0)) _ h in
-    points_none name wave (and_both (rising_times wave) _ a.1).1
-element_none (Mos name drain gate source bulk part len width) h = limit_none (some_metres len && some_metres width) _ name h
+    points_none wave (and_both (rising_times wave) _ a.1).1
+element_none (Mos name drain gate source bulk part len width) h = within_none (some_metres len && some_metres width) _ h
 
-pub part_none : (n : List ℕ) (p : part.Part) → is_part p ≡ true → part_limit (n, p) ≡ None
+-- the thresholds of a grid are small
+small_grid : (g : List ℤ) → is_grid g ≡ true → list_all small_volts g ≡ true
+small_grid g h = (and_both (list_all small_volts g) (rising g) (and_both (nat_le (length g) 256) _ h).1).0
+
+pub part_none : (p : part.Part) → is_part p ≡ true → part_limit p ≡ None
 unfolding part_limit
-part_none n (part.Level channel vto kp) h =
+part_none (part.Level channel vto kp) h =
     let b = and_both (small_vto vto) (some_gain kp) h in
-    λ i. option_or (limit (b.0 i) Volts n) (option_or (limit (b.1 i) Gain n) None)
-part_none n (part.Listed gate drain amps) h =
+    λ i. option_or (outside (b.0 i) Volts) (option_or (outside (b.1 i) Gain) None)
+part_none (part.Listed gate drain amps) h =
     let a = and_both (is_grid gate) _ h in
     let b = and_both (is_grid drain) _ a.1 in
     let c = and_both (length amps == (length gate + 1) * (length drain + 1)) _ b.1 in
-    λ i. option_or (limit (small gate a.0 i && small drain b.0 i) Volts n) (option_or (limit (c.1 i) Amps n) None)
-  where
-    small : (g : List ℤ) → is_grid g ≡ true → list_all small_volts g ≡ true
-    small g h = (and_both (list_all small_volts g) (rising g) (and_both (nat_le (length g) 256) _ h).1).0
+    λ i. option_or (outside (small_grid gate a.0 i && small_grid drain b.0 i) Volts) (option_or (outside (c.1 i) Amps) None)
+
+-- no value of a name is outside its limit
+pub limited_none : (n : List ℕ) (o : Option Which) → o ≡ None → limited n o ≡ None
+limited_none n o h = ap (limited n) h
+
+-- a table has no threshold outside its limit
+pub table_limit : (gate drain amps : List ℤ) → is_part (part.Listed gate drain amps) ≡ true → part_limit (part.Listed gate drain amps) ≡ outside (list_all small_amps amps) Amps
+unfolding part_limit
+table_limit gate drain amps valid =
+    let a = and_both (is_grid gate) _ valid in
+    let b = and_both (is_grid drain) _ a.1 in
+    (λ i. option_or (outside (small_grid gate a.0 i && small_grid drain b.0 i) Volts) (option_or (outside (list_all small_amps amps) Amps) None)) ∙ or_none (outside (list_all small_amps amps) Amps)

@@ -75,29 +75,38 @@ many_terminals d = option_map (Limit Terminals) (first_that (λ n. not (nat_le (
 abbrev pub limit : Bool → Which → List ℕ → Option EditRefusal
 limit within which name = when (not within) (Limit which name)
 
-unfoldable pub part_limit : List ℕ × part.Part → Option EditRefusal
-part_limit (n, part.Level channel vto kp) = first_of (limit (small_vto vto) Volts n ∷ limit (some_gain kp) Gain n ∷ [])
-part_limit (n, part.Listed gate drain amps) =
-    first_of (limit (list_all small_volts gate && list_all small_volts drain) Volts n ∷ limit (list_all small_amps amps) Amps n ∷ [])
+-- what a value is of that is outside its limit
+abbrev pub outside : Bool → Which → Option Which
+outside within which = when (not within) which
 
-abbrev pub point_limit : List ℕ → ℕ × ℤ → Option EditRefusal
-point_limit n p = first_of (limit (short_time p.0) Seconds n ∷ limit (small_volts p.1) Volts n ∷ [])
+-- what the first value of a part outside its limit is of
+unfoldable pub part_limit : part.Part → Option Which
+part_limit (part.Level channel vto kp) = first_of (outside (small_vto vto) Volts ∷ outside (some_gain kp) Gain ∷ [])
+part_limit (part.Listed gate drain amps) =
+    first_of (outside (list_all small_volts gate && list_all small_volts drain) Volts ∷ outside (list_all small_amps amps) Amps ∷ [])
 
--- the first value of an element outside its limit, by its place on the card
-unfoldable pub element_limit : Element → Option EditRefusal
-element_limit (Resistor name first second ohms) = limit (some_ohms ohms) Ohms name
-element_limit (Capacitor name plus minus farads) = limit (some_farads farads) Farads name
-element_limit (Source name plus minus wave) = first_some (point_limit name) wave
-element_limit (Mos name drain gate source bulk part len width) = limit (some_metres len && some_metres width) Metres name
+abbrev pub point_limit : ℕ × ℤ → Option Which
+point_limit p = first_of (outside (short_time p.0) Seconds ∷ outside (small_volts p.1) Volts ∷ [])
+
+-- what the first value of an element outside its limit is of, by its place on the card
+unfoldable pub element_limit : Element → Option Which
+element_limit (Resistor name first second ohms) = outside (some_ohms ohms) Ohms
+element_limit (Capacitor name plus minus farads) = outside (some_farads farads) Farads
+element_limit (Source name plus minus wave) = first_some point_limit wave
+element_limit (Mos name drain gate source bulk part len width) = outside (some_metres len && some_metres width) Metres
+
+-- the cause that such a value of this name makes
+abbrev pub limited : List ℕ → Option Which → Option EditRefusal
+limited name which = option_map (λ w. Limit w name) which
 
 -- stop tick, grain, parts, initial voltages, elements
 unfoldable pub value_limit : DeckValue → Option EditRefusal
 value_limit d = first_of (
     limit (short_time d.stop) Seconds (codes ".tran")
     ∷ limit (some_grain d.grain) Grain (codes ".options")
-    ∷ first_some part_limit d.parts
+    ∷ first_some (λ (p : List ℕ × part.Part). limited p.0 (part_limit p.1)) d.parts
     ∷ first_some (λ p. limit (small_volts p.1) Volts p.0) d.initial
-    ∷ first_some element_limit d.elements
+    ∷ first_some (λ e. limited (name_of e) (element_limit e)) d.elements
     ∷ [])
 
 -- ---- numbers of things

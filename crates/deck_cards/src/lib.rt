@@ -7,7 +7,7 @@ mod deck;
 mod edit_refusal;
 mod elements;
 mod facts;
-mod limits;
+pub mod limits;
 mod nodes;
 mod part;
 mod parts;
@@ -17,10 +17,9 @@ mod which;
 
 pub use deck::Deck;
 pub use edit_refusal::EditRefusal;
+pub use elements::{is_grounded, name_of};
 pub use part::Part;
 pub use parts::DeckParts;
 pub use semantics::{Channel, Element, Name, Title, Wave, WaveRefusal};
+pub use values::element_limit;
 pub use which::Which;
-
-#[cfg(test)]
-mod tests;

@@ -11,6 +11,13 @@ pub fn is_small(volts: i64) -> bool
     volts.unsigned_abs() <= 1_000_000_000
 }
 
+/// Whether each threshold in microvolts is at most 1,000 V in size.
+pub fn are_small_volts(thresholds: &[i64]) -> bool
+    ensures { result ≡ list_all valid.small_volts thresholds.now }
+{
+    thresholds.iter().all(|volts| is_small(*volts))
+}
+
 /// Whether a resistance in milliohms is 1 mΩ to 1 TΩ.
 pub fn is_some_ohms(ohms: i64) -> bool
     ensures { result ≡ valid.some_ohms ohms }
@@ -40,7 +47,7 @@ pub fn is_short(tick: u64) -> bool
 }
 
 /// Whether a grain in microvolts is even, and 2 µV to 1 V.
-pub fn is_some_grain(grain: u32) -> bool
+pub fn is_some_grain(grain: u64) -> bool
     ensures { result ≡ valid.some_grain grain }
 {
     grain % 2 == 0 && 2 <= grain && grain <= 1_000_000

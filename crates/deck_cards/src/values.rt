@@ -1,21 +1,21 @@
 //! The values of a deck, tested against their limits in one order.
 
-ghost use Rattle.std.specs.Prelude.{◌≡◌, true, map, OnOk};
+ghost use Rattle.std.specs.Prelude.{◌≡◌, ℕ, List, true, None, map, IfNone, OnOk};
 ghost use Rattle.std.specs.List.{list_all};
-ghost use Rattle.semantics.specs.Deck.{first_some};
+ghost use Rattle.semantics.specs.Deck.{name_of, first_some};
 ghost use Rattle.semantics.specs.Part as part;
 ghost use Rattle.semantics.specs.Valid.{small_volts, is_source, is_part, in_limits};
 ghost use Rattle.deck_cards.specs.Answers.{Answers};
 ghost use Rattle.deck_cards.specs.Cards.{deck_of};
-ghost use Rattle.deck_cards.specs.Causes.{limit, part_limit, point_limit, element_limit, value_limit};
+ghost use Rattle.deck_cards.specs.Causes.{limit, outside, limited, part_limit, point_limit, element_limit, value_limit};
 ghost use Rattle.deck_cards.specs.Part.{part_of};
 ghost use Rattle.deck_cards.specs.declared.which.Which.TheVariants as which_of;
 
 use crate::edit_refusal::EditRefusal;
-use crate::limits;
 use crate::part::Part;
 use crate::settled::Settled;
 use crate::which::Which;
+use crate::{elements, limits};
 use device_tables::Table;
 use indexmap::IndexMap;
 use semantics::{Element, Name, Wave};
@@ -31,32 +31,51 @@ fn check(within: bool, which: Which, name: &Name) -> Result<(), EditRefusal>
     Ok(())
 }
 
-/// Refuses a table with a current outside its limit. Its thresholds are in theirs by its type.
-#[tactic(auto, using(crate::proofs::Firsts::table_answers))]
-fn check_table(name: &Name, table: &Table) -> Result<(), EditRefusal>
-    ensures cause { Answers result (part_limit (name.now, part.Listed table.now.gate table.now.drain table.now.amps)) }
-    ensures valid { OnOk result (is_part (part.Listed table.now.gate table.now.drain table.now.amps) ≡ true) }
+/// What a value is of that is outside its limit.
+fn outside(within: bool, which: Which) -> Option<Which>
+    ensures { result ≡ outside within which }
 {
-    check(limits::are_some_amps(table.amps()), Which::Amps, name)
+    if within { None } else { Some(which) }
 }
 
-/// Refuses a part with a value outside its limit.
-fn check_part(name: &Name, part: &Part) -> Result<(), EditRefusal>
-    ensures cause { Answers result (part_limit (name.now, part_of part.now)) }
-    ensures valid { OnOk result (is_part (part_of part.now) ≡ true) }
+/// What the first current of a table outside its limit is of. Its thresholds are in theirs by its
+/// type.
+#[tactic(auto, using(crate::proofs::Within::table_limit), unfolding(crate::specs::Causes::part_limit))]
+fn table_limit(table: &Table) -> Option<Which>
+    ensures value { result ≡ part_limit (part.Listed table.now.gate table.now.drain table.now.amps) }
+    ensures valid { IfNone result (is_part (part.Listed table.now.gate table.now.drain table.now.amps) ≡ true) }
+{
+    outside(limits::are_some_amps(table.amps()), Which::Amps)
+}
+
+/// What the first value of a part outside its limit is of.
+fn part_limit(part: &Part) -> Option<Which>
+    ensures value { result ≡ part_limit (part_of part.now) }
+    ensures valid { IfNone result (is_part (part_of part.now) ≡ true) }
 {
     match part {
-        Part::Listed(table) => check_table(name, table),
+        Part::Listed(table) => table_limit(table),
+    }
+}
+
+/// Refuses a value of this name, where one is outside its limit.
+fn refuse(name: &Name, which: Option<Which>) -> Result<(), EditRefusal>
+    ensures cause { Answers result (limited name.now which) }
+    ensures none { OnOk result (which ≡ None) }
+{
+    match which {
+        None => Ok(()),
+        Some(which) => Err(EditRefusal::Limit(which, name.copy()?)),
     }
 }
 
 /// Refuses the first part with a value outside its limit.
 fn check_parts(parts: &IndexMap<Name, Part>) -> Result<(), EditRefusal>
-    ensures cause { Answers result (first_some part_limit (map (λ p. (p.0, part_of p.1)) parts.now.entries)) }
+    ensures cause { Answers result (first_some (λ (p : List ℕ × part.Part). limited p.0 (part_limit p.1)) (map (λ p. (p.0, part_of p.1)) parts.now.entries)) }
     ensures valid { OnOk result (list_all (λ p. is_part (part_of p.1)) parts.now.entries ≡ true) }
 {
     for (name, part) in parts.iter() {
-        check_part(name, part)?;
+        refuse(name, part_limit(part))?;
     }
     Ok(())
 }
@@ -71,58 +90,55 @@ fn check_initial(voltages: &IndexMap<Name, i64>) -> Result<(), EditRefusal>
     Ok(())
 }
 
-/// Refuses a point of a source outside its limits.
-fn check_point(name: &Name, point: &(u64, i64)) -> Result<(), EditRefusal>
-    ensures { Answers result (point_limit name.now point.now) }
+/// What a point of a source is of that is outside its limits: its time first, then its voltage.
+fn point_limit(point: &(u64, i64)) -> Option<Which>
+    ensures { result ≡ point_limit point.now }
 {
-    check(limits::is_short(point.0), Which::Seconds, name)?;
-    check(limits::is_small(point.1), Which::Volts, name)
+    if !limits::is_short(point.0) {
+        return Some(Which::Seconds);
+    }
+    outside(limits::is_small(point.1), Which::Volts)
 }
 
-/// Refuses the first point of a source outside its limits.
-fn check_wave(name: &Name, wave: &Wave) -> Result<(), EditRefusal>
-    ensures cause { Answers result (first_some (point_limit name.now) wave.now) }
-    ensures valid { OnOk result (is_source wave.now ≡ true) }
+/// What the first point of a source outside its limits is of.
+fn wave_limit(wave: &Wave) -> Option<Which>
+    ensures value { result ≡ first_some point_limit wave.now }
+    ensures valid { IfNone result (is_source wave.now ≡ true) }
 {
     for point in wave.points() {
-        check_point(name, point)?;
+        if let Some(which) = point_limit(point) {
+            return Some(which);
+        }
     }
-    Ok(())
+    None
 }
 
-/// Refuses the first value of an element outside its limit, by its place on the card.
+/// What the first value of an element outside its limit is of, by its place on the card.
 #[tactic(auto, unfolding(crate::specs::Causes::element_limit))]
-fn check_element(element: &Element) -> Result<(), EditRefusal>
-    ensures cause { Answers result (element_limit element.now) }
-    ensures valid { OnOk result (in_limits element.now ≡ true) }
+pub fn element_limit(element: &Element) -> Option<Which>
+    ensures value { result ≡ element_limit element.now }
+    ensures valid { IfNone result (in_limits element.now ≡ true) }
 {
     match element {
-        Element::Resistor { name, ohms, .. } => {
-            check(limits::is_some_ohms(*ohms), Which::Ohms, name)
+        Element::Resistor { ohms, .. } => outside(limits::is_some_ohms(*ohms), Which::Ohms),
+        Element::Capacitor { farads, .. } => {
+            outside(limits::is_some_farads(*farads), Which::Farads)
         }
-        Element::Capacitor { name, farads, .. } => {
-            check(limits::is_some_farads(*farads), Which::Farads, name)
-        }
-        Element::Source { name, wave, .. } => check_wave(name, wave),
-        Element::Mos {
-            name,
-            length,
-            width,
-            ..
-        } => {
+        Element::Source { wave, .. } => wave_limit(wave),
+        Element::Mos { length, width, .. } => {
             let within = limits::is_some_metres(*length) && limits::is_some_metres(*width);
-            check(within, Which::Metres, name)
+            outside(within, Which::Metres)
         }
     }
 }
 
 /// Refuses the first element with a value outside its limit.
 fn check_elements(elements: &[Element]) -> Result<(), EditRefusal>
-    ensures cause { Answers result (first_some element_limit elements.now) }
+    ensures cause { Answers result (first_some (λ e. limited (name_of e) (element_limit e)) elements.now) }
     ensures valid { OnOk result (list_all in_limits elements.now ≡ true) }
 {
     for element in elements {
-        check_element(element)?;
+        refuse(elements::name_of(element), element_limit(element))?;
     }
     Ok(())
 }
@@ -137,7 +153,11 @@ pub fn check_values(alloc: Global, cards: &Settled) -> Result<(), EditRefusal>
     let stop = Name::of(alloc, b".tran")?;
     check(limits::is_short(cards.stop), Which::Seconds, &stop)?;
     let grain = Name::of(alloc, b".options")?;
-    check(limits::is_some_grain(cards.grain), Which::Grain, &grain)?;
+    check(
+        limits::is_some_grain(u64::from(cards.grain)),
+        Which::Grain,
+        &grain,
+    )?;
     check_parts(&cards.parts)?;
     check_initial(&cards.initial)?;
     check_elements(&cards.elements)

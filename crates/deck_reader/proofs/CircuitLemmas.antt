@@ -13,17 +13,17 @@ use Rattle.semantics.specs.Valid.{is_grounded, driven_of}
 use Rattle.deck_cards.specs.Causes.{first_that, is_named, is_driven}
 use Rattle.deck_reader.specs.declared.why.DeckWhy.{DeckWhy}
 use Rattle.deck_reader.specs.declared.why.DeckWhy.TheVariants.{TwoDrivers, Limit}
-use Rattle.deck_reader.specs.declared.element.ElementCard.{ElementCard}
 use Rattle.deck_reader.specs.Words.{Word}
 use Rattle.deck_reader.specs.Circuit.{Circuit, elements_of, nodes_of, element_fault, with_placed}
 use Rattle.deck_reader.specs.Indexed.{with_line, with_ends, node_lines, IsIndexed}
-use Rattle.deck_reader.proofs.IndexLemmas.{any-map, look_up-names}
+use Rattle.deck_cards.proofs.Once.{any_map}
+use Rattle.deck_reader.proofs.IndexLemmas.{look_up-names}
 
 -- whether an element has a name, by the names of all
 pub named_by : (circuit now : Circuit) (names : List Word) (n : Word) → names ≡ map name_of (elements_of circuit) → circuit ≡ now
     → list_any (bytes_eq n) names ≡ is_named (elements_of now) n
 named_by circuit now names n same is =
-    ap (list_any (bytes_eq n)) same ∙ any-map (bytes_eq n) name_of (elements_of circuit) ∙ ap (λ c. is_named (elements_of c) n) is
+    ap (list_any (bytes_eq n)) same ∙ any_map (bytes_eq n) name_of (elements_of circuit) ∙ ap (λ c. is_named (elements_of c) n) is
 
 -- a new node that is not ground stands last
 pub with_line-new : (line : ℕ) (seen : List (Word × ℕ)) (name : Word) → is_ground name ≡ false → is_some (look_up name seen) ≡ false
@@ -99,10 +99,10 @@ clear false false driven x y rest is = absurd (cc)
 clear false true (Some node) x y rest is = absurd (cc)
 clear false true None x y rest is = (refl, refl, refl)
 
-pub is_clear : (circuit : Circuit) (card : ElementCard) → element_fault circuit card ≡ None → IsClear circuit card.element
+pub is_clear : (circuit : Circuit) (e : Element) → element_fault circuit e ≡ None → IsClear circuit e
 unfolding element_fault
-is_clear circuit card is =
-    let all = clear (is_named (elements_of circuit) (name_of card.element)) (is_grounded card.element) (first_that (is_driven (elements_of circuit)) (driven_of card.element)) _ _ _ is in
+is_clear circuit e is =
+    let all = clear (is_named (elements_of circuit) (name_of e)) (is_grounded e) (first_that (is_driven (elements_of circuit)) (driven_of e)) _ _ _ is in
     record { named = all.0; grounded = all.1; free = all.2 }
 
 -- one more element, whose nodes are these

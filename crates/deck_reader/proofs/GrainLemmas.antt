@@ -6,22 +6,22 @@ use Rattle.deck_reader.specs.declared.why.DeckWhy.{DeckWhy}
 use Rattle.deck_reader.specs.declared.why.DeckWhy.TheVariants.{WrongWords}
 use Rattle.deck_reader.specs.Words.{Word}
 use Rattle.deck_reader.specs.Numbers.{number, numbers, ◌>>=◌}
-use Rattle.deck_reader.specs.Dots.{is_grain, grain_values, last_of, options}
+use Rattle.deck_reader.specs.Dots.{is_grain_key, grain_values, last_of, options}
 
 -- whether the last word is a `grain` that has no value
 unfoldable pub wants_value : Bool → List Word → Bool
 wants_value behind_grain [] = behind_grain
-wants_value behind_grain (word ∷ words) = wants_value (not behind_grain && is_grain word) words
+wants_value behind_grain (word ∷ words) = wants_value (not behind_grain && is_grain_key word) words
 
 pub wants_is : (words : List Word) → is_none (grain_values words) ≡ wants_value false words
 unfolding grain_values wants_value
 wants_is [] = refl
-wants_is (word ∷ []) = by (is_grain word)
+wants_is (word ∷ []) = by (is_grain_key word)
   where
     by : (grain : Bool) → is_none {T = List Word} (if grain then None else Some []) ≡ (not false && grain)
     by true = refl
     by false = refl
-wants_is (word ∷ next ∷ words) = by (is_grain word) (wants_is words) (wants_is (next ∷ words))
+wants_is (word ∷ next ∷ words) = by (is_grain_key word) (wants_is words) (wants_is (next ∷ words))
   where
     skipped : (values : Option (List Word)) → is_none (option_map (λ vs. next ∷ vs) values) ≡ is_none values
     skipped None = refl
@@ -40,7 +40,7 @@ grain_behind last behind_grain (word ∷ words) =
     then (do
       z ← number Volt word
       grain_behind (Some z) false words)
-    else grain_behind last (is_grain word) words
+    else grain_behind last (is_grain_key word) words
 
 -- the last of these numbers, where this one stands before
 last_behind : Option ℤ → List Word → Result (Option ℤ) DeckWhy
@@ -67,14 +67,14 @@ grain_is last [] values is = by values is
     by : (vs : List Word) → grain_values [] ≡ Some vs → Ok last ≡ last_behind last vs
     by [] same = refl
     by (v ∷ vs) same = absurd (cc)
-grain_is last (word ∷ []) values is = by (is_grain word) values is
+grain_is last (word ∷ []) values is = by (is_grain_key word) values is
   where
     by : (grain : Bool) (vs : List Word) → (if grain then None else Some []) ≡ Some vs → Ok last ≡ last_behind last vs
     by true vs same = absurd (cc)
     by false [] same = refl
     by false (v ∷ vs) same = absurd (cc)
 grain_is last (word ∷ next ∷ words) values is =
-    by (is_grain word) (λ z vs known. grain_is (Some z) words vs known) (λ same. grain_is last (next ∷ words) values same) is
+    by (is_grain_key word) (λ z vs known. grain_is (Some z) words vs known) (λ same. grain_is last (next ∷ words) values same) is
   where
     step : (r : Result ℤ DeckWhy) (vs : List Word) → ((z : ℤ) → grain_behind (Some z) false words ≡ last_behind (Some z) vs)
         → (r >>= (λ z. grain_behind (Some z) false words)) ≡ (r >>= (λ z. last_behind (Some z) vs))

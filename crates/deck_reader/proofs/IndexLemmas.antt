@@ -1,20 +1,9 @@
 -- How a map in order of insertion finds and puts a name.
 use Rattle.std.proofs.Common.{◌≡◌, ℕ, Bool, true, false, ◌||◌, if◌then◌else◌, List, [], ◌∷◌, ◌++◌, map, Some, None, is_some, refl, ap}
 use Rattle.std.specs.List.{list_any}
-use Rattle.std.specs.Map.{lookup}
 use Rattle.std.specs.Str.{bytes_eq}
 use Rattle.indexmap.specs.IndexMap.{insert_entry}
 use Rattle.semantics.specs.Deck.{look_up}
-
--- it finds what the definition does
-pub look_up_is : {A : Type 0} (n : List ℕ) (ps : List (List ℕ × A)) → lookup (bytes_eq n) ps ≡ look_up n ps
-look_up_is n [] = refl
-look_up_is {A = A} n (p ∷ ps) = by (bytes_eq n p.0) (look_up_is n ps)
-  where
-    by : (b : Bool) → lookup (bytes_eq n) ps ≡ look_up n ps
-        → (if b then Some p.1 else lookup (bytes_eq n) ps) ≡ elim (if b then Some p.1 else None) [ None ↦ look_up n ps | Some y ↦ Some y ]
-    by true ih = refl
-    by false ih = ih
 
 -- it puts a new name last
 pub insert_new : {A : Type 0} (ps : List (List ℕ × A)) (n : List ℕ) (x : A) → is_some (look_up n ps) ≡ false → insert_entry bytes_eq ps n x ≡ ps ++ (n, x) ∷ []
@@ -27,21 +16,7 @@ insert_new {A = A} (p ∷ ps) n x new = by (bytes_eq n p.0) new (insert_new ps n
     by true found ih = absurd (cc)
     by false found ih = ap (λ l. p ∷ l) (ih found)
 
--- whether one of the things has this name
-pub any-map : {X Y : Type 0} (p : Y → Bool) (f : X → Y) (xs : List X) → list_any p (map f xs) ≡ list_any (λ x. p (f x)) xs
-any-map p f [] = refl
-any-map p f (x ∷ xs) = ap (λ b. p (f x) || b) (any-map p f xs)
-
 -- whether a name is given something, by the names of all that are
-pub look_up-map : {A B : Type 0} (f : A → B) (n : List ℕ) (ps : List (List ℕ × A)) → list_any (bytes_eq n) (map (λ p. p.0) ps) ≡ is_some (look_up n (map (λ p. (p.0, f p.1)) ps))
-look_up-map f n [] = refl
-look_up-map {A = A} {B = B} f n (p ∷ ps) = by (bytes_eq n p.0) (look_up-map f n ps)
-  where
-    by : (b : Bool) → list_any (bytes_eq n) (map (λ q. q.0) ps) ≡ is_some (look_up n (map (λ q. (q.0, f q.1)) ps))
-        → (b || list_any (bytes_eq n) (map (λ q. q.0) ps)) ≡ is_some (elim (if b then Some (f p.1) else None) [ None ↦ look_up n (map (λ q. (q.0, f q.1)) ps) | Some y ↦ Some y ])
-    by true ih = refl
-    by false ih = ih
-
 pub look_up-names : {A : Type 0} (n : List ℕ) (ps : List (List ℕ × A)) → list_any (bytes_eq n) (map (λ p. p.0) ps) ≡ is_some (look_up n ps)
 look_up-names n [] = refl
 look_up-names {A = A} n (p ∷ ps) = by (bytes_eq n p.0) (look_up-names n ps)

@@ -1,49 +1,49 @@
 -- What each card without a fault keeps of a deck: names differ, no node is driven twice, and each value is in its limit.
-use Rattle.std.proofs.Common.{◌≡◌, ℕ, ◌^◌, ◌<◌, ◌≤◌, ℤ, pos, negsuc, Bool, true, false, not, ◌&&◌, ◌||◌, if◌then◌else◌, List, [], ◌∷◌, ◌++◌, length, map, fold, Option, Some, None, is_some, Result, Ok, Err, refl, sym, ◌∙◌, ap, subst, arith, append-nil, length-append}
+use Rattle.std.proofs.Common.{◌≡◌, ℕ, ◌<◌, ◌≤◌, ℤ, pos, Bool, true, false, not, ◌&&◌, ◌||◌, if◌then◌else◌, List, [], ◌∷◌, ◌++◌, length, map, fold, Option, Some, None, is_some, Result, Ok, Err, refl, sym, ◌∙◌, ap, subst, arith, append-nil, length-append}
 use Rattle.std.specs.Prelude.{nat_lt, nat_le, unsigned_abs, int_le}
+use Rattle.std.specs.Option.{option_or}
 use Rattle.std.specs.List.{list_all, list_any, flat_map}
 use Rattle.std.specs.Str.{bytes_eq}
 use Rattle.std.proofs.lemmas.Bool.{and_parts, and_from, leb-false, ltb-false}
 use Rattle.std.proofs.lemmas.List.{map-append, length-map}
-use Rattle.std.proofs.lemmas.Grind.{flat_map-append, fold-append}
+use Rattle.std.proofs.lemmas.Grind.{flat_map-append}
 use Rattle.semantics.specs.declared.element.Element.{Element}
 use Rattle.semantics.specs.declared.element.Element.TheVariants.{Resistor, Capacitor, Source, Mos}
 use Rattle.semantics.specs.Ground.{is_ground}
 use Rattle.semantics.specs.Part.{Part, Listed}
-use Rattle.semantics.specs.Deck.{name_of, look_up}
-use Rattle.semantics.specs.Valid.{differ, driven_of, is_grounded, in_limits, is_part, small_volts, some_grain, short_time}
-use Rattle.device_tables.specs.Table.{TableValue}
+use Rattle.semantics.specs.Deck.{name_of, look_up, first_some}
+use Rattle.semantics.specs.Valid.{differ, driven_of, is_grounded, small_volts, some_grain, short_time}
 use Rattle.deck_cards.specs.declared.which.Which.{Which}
 use Rattle.deck_cards.specs.declared.which.Which.TheVariants.{Elements, Nodes, Seconds, Grain, Volts}
-use Rattle.deck_cards.specs.Causes.{first_that, is_named, is_driven, when}
-use Rattle.deck_cards.specs.Settled.{put, put_all}
+use Rattle.deck_cards.specs.declared.edit_refusal.EditRefusal.{EditRefusal}
+use Rattle.deck_cards.specs.Causes.{first_that, is_named, is_driven, when, limited, part_limit, element_limit}
+use Rattle.deck_cards.specs.Settled.{put}
 use Rattle.deck_cards.proofs.Differ.{differ-push}
+use Rattle.deck_cards.proofs.Firsts.{first_some-push}
 use Rattle.deck_cards.proofs.Named.{same_name, name_turned, or_both, from_not}
+use Rattle.deck_cards.proofs.Once.{any_map, put_once, fold_put_once}
 use Rattle.deck_reader.specs.declared.why.DeckWhy.{DeckWhy}
-use Rattle.deck_reader.specs.declared.why.DeckWhy.TheVariants.{WrongWords, DuplicateName, DuplicateModel, SecondTran, NotGrounded, TwoDrivers, Limit}
-use Rattle.deck_reader.specs.declared.element.ElementCard.{ElementCard}
-use Rattle.deck_reader.specs.declared.table.Lists.{Lists}
-use Rattle.spice_num.specs.declared.units.Unit.TheVariants.{Volt, Amp}
+use Rattle.deck_reader.specs.declared.why.DeckWhy.TheVariants.{DuplicateName, DuplicateModel, SecondTran, NotGrounded, TwoDrivers, Limit}
 use Rattle.deck_reader.specs.Words.{Word}
-use Rattle.deck_reader.specs.Numbers.{numbers, ◌>>=◌}
-use Rattle.deck_reader.specs.Sources.{is_time}
-use Rattle.deck_reader.specs.Tables.{lists_of, table_fault, table_or, table_of, table_limit}
+use Rattle.deck_reader.specs.Tables.{table_of}
 use Rattle.deck_reader.specs.Dots.{initial, options, tran}
 use Rattle.deck_reader.specs.Circuit.{Circuit, elements_of, nodes_of, element_fault, with_placed, with_element}
-use Rattle.deck_reader.specs.Told.{with_table, voltage_limit, with_initial, is_grain, grain_after, with_options, span_after, with_tran}
+use Rattle.deck_reader.specs.Told.{with_part, with_table, voltage_limit, with_initial, is_grain, grain_after, with_options, is_stop, span_after, with_tran}
 use Rattle.deck_reader.proofs.InversionLemmas.{steps, passes, holds, faultless, ok_same, all_push}
-use Rattle.deck_reader.proofs.IndexLemmas.{any-map}
-use Rattle.deck_reader.proofs.TableLemmas.{is_fine}
 use Rattle.deck_reader.proofs.CircuitLemmas.{IsClear, is_clear}
-use Rattle.deck_reader.proofs.ElementLemmas.{IsIn}
+use Rattle.deck_reader.proofs.IndexLemmas.{look_up-names}
 
 -- ---- elements
+
+-- no value of these elements is outside its limit
+abbrev pub AreWithin : List Element → Type 0
+AreWithin elements = first_some (λ e. limited (name_of e) (element_limit e)) elements ≡ None
 
 pub record IsFit (circuit : Circuit) : Type 0 where
   pub names : differ (map name_of (elements_of circuit)) ≡ true
   pub driven : differ (flat_map driven_of (elements_of circuit)) ≡ true
   pub grounded : list_all is_grounded (elements_of circuit) ≡ true
-  pub limits : list_all in_limits (elements_of circuit) ≡ true
+  pub limits : AreWithin (elements_of circuit)
   pub few : length (elements_of circuit) ≤ 100000
   pub few_nodes : length (nodes_of circuit) ≤ 100000
 
@@ -73,12 +73,13 @@ drives_apart ns (Source name plus minus wave) apart grounded free = by (is_groun
     by false true g f = push_differs ns plus apart (not_driven ns plus f)
     by false false g f = absurd (cc)
 
-fit_more : (circuit : Circuit) (line : ℕ) (e : Element) → IsFit circuit → IsClear circuit e → in_limits e ≡ true → length circuit < 100000
+fit_more : (circuit : Circuit) (line : ℕ) (e : Element) → IsFit circuit → IsClear circuit e → element_limit e ≡ None → length circuit < 100000
     → length (nodes_of (circuit ++ (line, e) ∷ [])) ≤ 100000 → IsFit (circuit ++ (line, e) ∷ [])
 fit_more circuit line e fit clear within room few =
     let es = elements_of circuit in
+    let limit : Element → Option EditRefusal = λ x. limited (name_of x) (element_limit x) in
     let more : elements_of (circuit ++ (line, e) ∷ []) ≡ es ++ e ∷ [] = map-append (λ (at : ℕ × Element). at.1) circuit ((line, e) ∷ []) in
-    let new : list_any (bytes_eq (name_of e)) (map name_of es) ≡ false = any-map (bytes_eq (name_of e)) name_of es ∙ clear.named in
+    let new : list_any (bytes_eq (name_of e)) (map name_of es) ≡ false = any_map (bytes_eq (name_of e)) name_of es ∙ clear.named in
     record {
       names = ap (λ l. differ (map name_of l)) more ∙ ap differ (map-append name_of es (e ∷ [])) ∙ push_differs (map name_of es) (name_of e) fit.names new;
       driven =
@@ -86,7 +87,7 @@ fit_more circuit line e fit clear within room few =
           ∙ ap differ (flat_map-append driven_of es (e ∷ []) ∙ ap (λ l. flat_map driven_of es ++ l) (append-nil (driven_of e)))
           ∙ drives_apart (flat_map driven_of es) e fit.driven clear.grounded clear.free;
       grounded = ap (list_all is_grounded) more ∙ all_push is_grounded es e fit.grounded clear.grounded;
-      limits = ap (list_all in_limits) more ∙ all_push in_limits es e fit.limits within;
+      limits = ap (first_some limit) more ∙ first_some-push limit es e ∙ (λ i. option_or (fit.limits i) (limited (name_of e) (within i)));
       few = omega (arith, ap length more, length-append es (e ∷ []), length-map {B = Element} circuit (λ (at : ℕ × Element). at.1));
       few_nodes = few;
     }
@@ -99,107 +100,61 @@ within_limits false false driven x y rest is = absurd (cc)
 within_limits false true (Some node) x y rest is = absurd (cc)
 within_limits false true None x y rest is = is
 
-roomy : (limit : Option Which) (full fits : Bool) (name : Word)
-    → ◌≡◌ {A = Option DeckWhy} (elim limit [ Some which ↦ Some (Limit which name) | None ↦ if full then Some (Limit Elements name) else None ]) None → (is_some limit || fits) ≡ true
-    → (fits ≡ true) × (full ≡ false)
-roomy (Some which) full fits name h w = absurd (cc)
-roomy None true fits name h w = absurd (cc)
-roomy None false fits name h w = (w, refl)
+roomy : (limit : Option Which) (full : Bool) (name : Word)
+    → ◌≡◌ {A = Option DeckWhy} (elim limit [ Some which ↦ Some (Limit which name) | None ↦ if full then Some (Limit Elements name) else None ]) None → (limit ≡ None) × (full ≡ false)
+roomy (Some which) full name h = absurd (cc)
+roomy None true name h = absurd (cc)
+roomy None false name h = (refl, refl)
 
-pub circuit_kept : (circuit : Circuit) (line : ℕ) (card : ElementCard) (next : Circuit) → IsFit circuit → IsIn card → with_element circuit line card ≡ Ok next → IsFit next
+pub circuit_kept : (circuit : Circuit) (line : ℕ) (e : Element) (next : Circuit) → IsFit circuit → with_element circuit line e ≡ Ok next → IsFit next
 unfolding with_element with_placed element_fault
-circuit_kept circuit line card next fit within is =
-    let e = card.element in
-    let fault = faultless (element_fault circuit card) (with_placed circuit line e) next is in
-    let clear = is_clear circuit card fault.0 in
+circuit_kept circuit line e next fit is =
+    let fault = faultless (element_fault circuit e) (with_placed circuit line e) next is in
+    let clear = is_clear circuit e fault.0 in
     let more = circuit ++ (line, e) ∷ [] in
     let placed = passes (nat_lt 100000 (length (nodes_of more))) (Limit Nodes (name_of e)) (Ok more) next fault.1 in
     let rest = within_limits (is_named (elements_of circuit) (name_of e)) (is_grounded e) (first_that (is_driven (elements_of circuit)) (driven_of e)) (DuplicateName (name_of e)) (NotGrounded (name_of e)) _ fault.0 in
-    let free = roomy card.limit (nat_le 100000 (length circuit)) (in_limits e) (name_of e) rest within in
+    let free = roomy (element_limit e) (nat_le 100000 (length circuit)) (name_of e) rest in
     subst IsFit (ok_same more next placed.1)
     (fit_more circuit line e fit clear free.0 (leb-false 100000 (length circuit) free.1) (ltb-false 100000 (length (nodes_of more)) placed.0))
 
 -- ---- tables
 
-table_whole : (gate drain amps : List ℤ) (table : TableValue) (o : Option DeckWhy) → table_fault gate drain amps ≡ o
-    → table_or o (record { gate = gate; drain = drain; amps = amps }) ≡ Ok table → table_fault table.gate table.drain table.amps ≡ None
-table_whole gate drain amps table (Some why) is h = absurd (cc)
-table_whole gate drain amps table None is h =
-    subst (λ (t : TableValue). table_fault t.gate t.drain t.amps ≡ None) (ok_same (record { gate = gate; drain = drain; amps = amps }) table h) is
+-- no name stands twice, and no value is outside its limit
+pub record AreTables (tables : List (Word × Part)) : Type 0 where
+  pub names : differ (map (λ p. p.0) tables) ≡ true
+  pub limits : first_some (λ p. limited p.0 (part_limit p.1)) tables ≡ None
 
-table_in : (lists : Option Lists) (table : TableValue)
-    → ◌≡◌ {A = Result TableValue DeckWhy} (elim lists [
-      | None ↦ Err WrongWords
-      | Some l ↦ (numbers Volt l.gate >>= (λ gate. numbers Volt l.drain >>= (λ drain. numbers Amp l.amps >>= (λ amps.
-          table_or (table_fault gate drain amps) (record { gate = gate; drain = drain; amps = amps })))))
-    ]) (Ok table)
-    → table_fault table.gate table.drain table.amps ≡ None
-table_in None table is = absurd (cc)
-table_in (Some l) table is =
-    let gate = steps (numbers Volt l.gate) (λ gate. numbers Volt l.drain >>= (λ drain. numbers Amp l.amps >>= (λ amps.
-    table_or (table_fault gate drain amps) (record { gate = gate; drain = drain; amps = amps })))) table is in
-    let drain = steps (numbers Volt l.drain) (λ drain. numbers Amp l.amps >>= (λ amps.
-    table_or (table_fault gate.0 drain amps) (record { gate = gate.0; drain = drain; amps = amps }))) table gate.2 in
-    let amps = steps (numbers Amp l.amps) (λ amps.
-    table_or (table_fault gate.0 drain.0 amps) (record { gate = gate.0; drain = drain.0; amps = amps })) table drain.2 in
-    table_whole gate.0 drain.0 amps.0 table (table_fault gate.0 drain.0 amps.0) refl amps.2
-
-table_of-whole : (words : List Word) (table : TableValue) → table_of words ≡ Ok table → table_fault table.gate table.drain table.amps ≡ None
-unfolding table_of
-table_of-whole words table is = table_in (lists_of words) table is
-
-abbrev pub AreTables : List (Word × Part) → Type 0
-AreTables tables = list_all (λ p. is_part p.1) tables ≡ true
-
-pub tables_kept : (tables : List (Word × Part)) (words : List Word) (next : List (Word × Part)) → AreTables tables → with_table tables words ≡ Ok next → AreTables next
-unfolding with_table
-tables_kept tables [] next fit is = absurd (cc)
-tables_kept tables (name ∷ words) next fit is =
-    let read = steps (table_of words) (λ table. if is_some (look_up name tables) then Err (DuplicateModel name) else elim (table_limit table) [
-      | Some which ↦ Err (Limit which name)
-      | None ↦ Ok (tables ++ (name, Listed table.gate table.drain table.amps) ∷ [])
-    ]) next is in
-    let table = read.0 in
-    let new = passes (is_some (look_up name tables)) (DuplicateModel name) (elim (table_limit table) [
-      | Some which ↦ Err (Limit which name)
-      | None ↦ Ok (tables ++ (name, Listed table.gate table.drain table.amps) ∷ [])
-    ]) next read.2 in
-    let within = by (table_limit table) (tables ++ (name, Listed table.gate table.drain table.amps) ∷ []) new.1 in
-    let fine = is_fine table.gate table.drain table.amps (table_of-whole words table read.1) within.0 in
-    subst AreTables within.1 (all_push (λ (p : Word × Part). is_part p.1) tables (name, Listed table.gate table.drain table.amps) fit fine.whole)
+with_part-kept : (tables : List (Word × Part)) (name : Word) (part : Part) (next : List (Word × Part)) → AreTables tables → with_part tables name part ≡ Ok next → AreTables next
+with_part-kept tables name part next fit is =
+    let limit : Word × Part → Option EditRefusal = λ p. limited p.0 (part_limit p.1) in
+    let more = tables ++ (name, part) ∷ [] in
+    let new = passes (is_some (look_up name tables)) (DuplicateModel name) (elim (part_limit part) [ Some which ↦ Err (Limit which name) | None ↦ Ok more ]) next is in
+    let within = by (part_limit part) more new.1 in
+    subst AreTables within.1 (record {
+      names =
+          ap differ (map-append (λ (p : Word × Part). p.0) tables ((name, part) ∷ []))
+          ∙ push_differs (map (λ (p : Word × Part). p.0) tables) name fit.names (look_up-names name tables ∙ new.0);
+      limits = first_some-push limit tables (name, part) ∙ (λ i. option_or (fit.limits i) (limited name (within.0 i)));
+    })
   where
     by : (o : Option Which) (more : List (Word × Part)) → ◌≡◌ {A = Result (List (Word × Part)) DeckWhy} (elim o [ Some which ↦ Err (Limit which name) | None ↦ Ok more ]) (Ok next) → (o ≡ None) × (more ≡ next)
     by (Some which) more h = absurd (cc)
     by None more h = (refl, ok_same more next h)
 
+pub tables_kept : (tables : List (Word × Part)) (words : List Word) (next : List (Word × Part)) → AreTables tables → with_table tables words ≡ Ok next → AreTables next
+unfolding with_table
+tables_kept tables [] next fit is = absurd (cc)
+tables_kept tables (name ∷ words) next fit is =
+    let read = steps (table_of words) (λ table. with_part tables name (Listed table.gate table.drain table.amps)) next is in
+    with_part-kept tables name (Listed read.0.gate read.0.drain read.0.amps) next fit read.2
+
 -- ---- initial voltages
 
-abbrev pub AreSmall : List (Word × ℤ) → Type 0
-AreSmall voltages = list_all (λ p. small_volts p.1) (put_all voltages) ≡ true
-
--- each name stands once
-keys_put : (qs : List (Word × ℤ)) (p : Word × ℤ) → map (λ q. q.0) (put qs p) ≡ (if list_any (bytes_eq p.0) (map (λ q. q.0) qs) then map (λ q. q.0) qs else map (λ q. q.0) qs ++ p.0 ∷ [])
-keys_put [] p = refl
-keys_put (q ∷ qs) p = by (bytes_eq p.0 q.0) (list_any (bytes_eq p.0) (map (λ (r : Word × ℤ). r.0) qs)) (keys_put qs p)
-  where
-    by : (a b : Bool) → map (λ (r : Word × ℤ). r.0) (put qs p) ≡ (if b then map (λ r. r.0) qs else map (λ r. r.0) qs ++ p.0 ∷ [])
-        → map (λ (r : Word × ℤ). r.0) (if a then (q.0, p.1) ∷ qs else q ∷ put qs p)
-        ≡ (if a || b then q.0 ∷ map (λ r. r.0) qs else q.0 ∷ (map (λ r. r.0) qs ++ p.0 ∷ []))
-    by true b ih = refl
-    by false true ih = ap (λ l. q.0 ∷ l) ih
-    by false false ih = ap (λ l. q.0 ∷ l) ih
-
-put_once : (qs : List (Word × ℤ)) (p : Word × ℤ) → differ (map (λ q. q.0) qs) ≡ true → differ (map (λ q. q.0) (put qs p)) ≡ true
-put_once qs p h = ap differ (keys_put qs p) ∙ by (list_any (bytes_eq p.0) (map (λ (q : Word × ℤ). q.0) qs)) refl
-  where
-    by : (b : Bool) → list_any (bytes_eq p.0) (map (λ (q : Word × ℤ). q.0) qs) ≡ b
-        → differ (if b then map (λ (q : Word × ℤ). q.0) qs else map (λ (q : Word × ℤ). q.0) qs ++ p.0 ∷ []) ≡ true
-    by true e = h
-    by false e = push_differs (map (λ (q : Word × ℤ). q.0) qs) p.0 h e
-
-fold_put_once : (qs ps : List (Word × ℤ)) → differ (map (λ q. q.0) qs) ≡ true → differ (map (λ q. q.0) (fold put qs ps)) ≡ true
-fold_put_once qs [] h = h
-fold_put_once qs (p ∷ ps) h = fold_put_once (put qs p) ps (put_once qs p h)
+-- no name stands twice, and no voltage is outside its limit
+pub record AreSmall (voltages : List (Word × ℤ)) : Type 0 where
+  pub names : differ (map (λ p. p.0) voltages) ≡ true
+  pub small : list_all (λ p. small_volts p.1) voltages ≡ true
 
 -- in its limit, or standing again behind
 abbrev excused : List (Word × ℤ) → Word × ℤ → Bool
@@ -280,11 +235,12 @@ small_after qs (p ∷ voltages) apart all none =
 pub voltages_kept : (before : List (Word × ℤ)) (words : List Word) (next : List (Word × ℤ)) → AreSmall before → with_initial before words ≡ Ok next → AreSmall next
 unfolding with_initial
 voltages_kept before words next fit is =
-    let read = steps (initial words) (λ voltages. elim (voltage_limit voltages) [ Some why ↦ Err why | None ↦ Ok (before ++ voltages) ]) next is in
-    let none = faultless (voltage_limit read.0) (Ok (before ++ read.0)) next read.2 in
-    subst AreSmall (ok_same (before ++ read.0) next none.1)
-    (ap (list_all (λ p. small_volts p.1)) (fold-append put [] before read.0)
-    ∙ small_after (put_all before) read.0 (fold_put_once [] before refl) (small_excused read.0 (put_all before) fit) none.0)
+    let read = steps (initial words) (λ voltages. elim (voltage_limit voltages) [ Some why ↦ Err why | None ↦ Ok (fold put before voltages) ]) next is in
+    let none = faultless (voltage_limit read.0) (Ok (fold put before read.0)) next read.2 in
+    subst AreSmall (ok_same (fold put before read.0) next none.1) (record {
+      names = fold_put_once before read.0 fit.names;
+      small = small_after before read.0 fit.names (small_excused read.0 before fit.small) none.0;
+    })
 
 -- ---- grain and stop tick
 
@@ -304,15 +260,11 @@ abbrev pub IsShort : Option (ℕ × Bool) → Type 0
 IsShort None = Unit {0}
 IsShort (Some span) = short_time span.0 ≡ true
 
-short_from : (t : ℤ) → is_time t ≡ true → short_time (unsigned_abs t) ≡ true
-short_from (pos n) h = (and_parts (int_le (pos 0) (pos n)) (int_le (pos n) (pos (10 ^ 10))) h).1
-short_from (negsuc n) h = absurd (cc)
-
 pub span_kept : (before : Option (ℕ × Bool)) (word : Word) (words : List Word) (next : Option (ℕ × Bool)) → with_tran before word words ≡ Ok next → IsShort next
 unfolding with_tran
 span_kept before word words next is =
     let read = steps (tran words) (span_after before word) next is in
     let span = read.0 in
-    let first = passes (is_some before) SecondTran (if is_time span.stop then Ok (Some (unsigned_abs span.stop, span.uic)) else Err (Limit Seconds word)) next read.2 in
-    let h = holds (is_time span.stop) (Limit Seconds word) (Some (unsigned_abs span.stop, span.uic)) next first.1 in
-    subst IsShort h.1 (short_from span.stop h.0)
+    let first = passes (is_some before) SecondTran (if is_stop span.stop then Ok (Some (unsigned_abs span.stop, span.uic)) else Err (Limit Seconds word)) next read.2 in
+    let h = holds (is_stop span.stop) (Limit Seconds word) (Some (unsigned_abs span.stop, span.uic)) next first.1 in
+    subst IsShort h.1 (and_parts (int_le (pos 0) span.stop) (short_time (unsigned_abs span.stop)) h.0).1

@@ -5,10 +5,10 @@ pub mod BehindLemmas
 pub mod GrainLemmas
 pub mod TableLemmas
 pub mod IndexLemmas
+pub mod PlacedLemmas
 pub mod CircuitLemmas
 pub mod VoltageLemmas
 pub mod InversionLemmas
-pub mod ElementLemmas
 pub mod KeptLemmas
 pub mod SoundLemmas
 pub mod LineLemmas

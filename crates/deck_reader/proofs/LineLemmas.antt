@@ -12,7 +12,7 @@ use Rattle.deck_cards.specs.declared.edit_refusal.EditRefusal.{EditRefusal}
 use Rattle.deck_cards.specs.declared.edit_refusal.EditRefusal.TheVariants.{Uncapped, NoInitial, Limit}
 use Rattle.deck_cards.specs.declared.which.Which.TheVariants.{NodeFarads, Terminals}
 use Rattle.deck_cards.specs.Causes.{first_that, uncapped, no_initial, node_farads, many_terminals}
-use Rattle.deck_cards.proofs.Firsts.{or_none, first_some-cons}
+use Rattle.deck_cards.proofs.Firsts.{or_none, first_some-cons, first_some-push, or_in}
 use Rattle.deck_cards.proofs.Named.{same_name}
 use Rattle.deck_reader.specs.declared.why.DeckWhy.TheVariants as why
 use Rattle.deck_reader.specs.declared.why.DeckRefusal.{DeckRefusal}
@@ -22,10 +22,6 @@ use Rattle.deck_reader.specs.Indexed.{with_line, with_ends, node_lines, noted_li
 use Rattle.deck_reader.specs.Reading.{at, node_refusal, node_cause, sound}
 
 -- ---- the table
-
-or_in : {A : Type 0} (a b c : Option A) → option_or a (option_or b c) ≡ option_or (option_or a b) c
-or_in None b c = refl
-or_in (Some x) b c = refl
 
 -- the same twice is as good as once
 or_either : {A : Type 0} (o : Option A) (a b : Bool) (x : A) → option_or (option_or o (if a then Some x else None)) (if b then Some x else None) ≡ option_or o (if a || b then Some x else None)
@@ -38,15 +34,6 @@ or_stays : {A : Type 0} (o : Option A) (b : Bool) (x : A) → (b ≡ true → is
 or_stays (Some y) b x there = refl
 or_stays None true x there = absurd (false≢true (there refl))
 or_stays None false x there = refl
-
--- what is found behind a list with one thing more
-first_some-push : {A B : Type 0} (f : A → Option B) (xs : List A) (x : A) → first_some f (xs ++ x ∷ []) ≡ option_or (first_some f xs) (f x)
-first_some-push f [] x = first_some-cons f x [] ∙ or_none (f x)
-first_some-push f (y ∷ ys) x =
-    first_some-cons f y (ys ++ x ∷ [])
-    ∙ ap (option_or (f y)) (first_some-push f ys x)
-    ∙ or_in (f y) (first_some f ys) (f x)
-    ∙ ap (λ o. option_or o (f x)) (sym (first_some-cons f y ys))
 
 -- a name that is not ground is found with the line of the end that it is at, where it is not noted yet
 line_noted : (n : Word) (line : ℕ) (seen : List (Word × ℕ)) (m : Word) → is_ground n ≡ false → look_up n (with_line line seen m) ≡ option_or (look_up n seen) (given n (m, line))

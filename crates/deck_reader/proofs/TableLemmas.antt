@@ -9,7 +9,8 @@ use Rattle.semantics.specs.Valid.{rising, small_volts, small_amps, is_grid, is_p
 use Rattle.device_tables.specs.Table.{is_small_grid}
 use Rattle.deck_cards.specs.declared.which.Which.TheVariants.{Volts, Amps}
 use Rattle.deck_reader.specs.declared.why.DeckWhy.TheVariants.{TooManyThresholds, NotRising, WrongCount}
-use Rattle.deck_reader.specs.Tables.{table_fault, table_limit}
+use Rattle.deck_cards.specs.Causes.{first_of, outside, part_limit}
+use Rattle.deck_reader.specs.Tables.{table_fault}
 
 -- fewer than two thresholds rise
 pub rising-few : (xs : List ℤ) → length xs < 2 → true ≡ rising xs
@@ -33,7 +34,7 @@ unfaulted false false true false c is = absurd (cc)
 unfaulted false false true true false is = absurd (cc)
 unfaulted false false true true true is = (refl, refl, refl, refl, refl)
 
-unlimited : (g d a : Bool) → (if not g || not d then Some Volts else if not a then Some Amps else None) ≡ None → (g ≡ true) × (d ≡ true) × (a ≡ true)
+unlimited : (g d a : Bool) → first_of (outside (g && d) Volts ∷ outside a Amps ∷ []) ≡ None → (g ≡ true) × (d ≡ true) × (a ≡ true)
 unlimited false d a is = absurd (cc)
 unlimited true false a is = absurd (cc)
 unlimited true true false is = absurd (cc)
@@ -48,8 +49,8 @@ products a g d is gates drains =
     let rows : (g + 1) * (d + 1) ≤ (g + 1) * 257 = mul-le-mul_left (g + 1) (omega arith) in
     omega (arith, rows, is)
 
-pub is_fine : (gate drain amps : List ℤ) → table_fault gate drain amps ≡ None → table_limit (record { gate = gate; drain = drain; amps = amps }) ≡ None → IsFine gate drain amps
-unfolding table_fault
+pub is_fine : (gate drain amps : List ℤ) → table_fault gate drain amps ≡ None → part_limit (Listed gate drain amps) ≡ None → IsFine gate drain amps
+unfolding table_fault part_limit
 is_fine gate drain amps fault limit =
     let f = unfaulted (nat_lt 256 (length gate)) (nat_lt 256 (length drain)) (rising gate) (rising drain) (length amps == (length gate + 1) * (length drain + 1)) fault in
     let l = unlimited (list_all small_volts gate) (list_all small_volts drain) (list_all small_amps amps) limit in

@@ -1,6 +1,7 @@
 -- Voltages that are looked at from the last to the first.
-use Rattle.std.proofs.Common.{◌≡◌, ℕ, ℤ, suc, ◌-◌, ◌<◌, ◌≤◌, Bool, true, false, ◌&&◌, ◌||◌, if◌then◌else◌, List, [], ◌∷◌, ◌++◌, length, drop, get_or, Option, Some, None, is_some, refl, sym, ◌∙◌, ap, arith}
+use Rattle.std.proofs.Common.{◌≡◌, ℕ, ℤ, suc, ◌-◌, ◌<◌, ◌≤◌, Bool, true, false, ◌&&◌, ◌||◌, if◌then◌else◌, List, [], ◌∷◌, ◌++◌, length, drop, get_or, fold, Option, Some, None, is_some, Result, Ok, Err, ◌⊎◌, inl, inr, refl, sym, ◌∙◌, ap, subst, arith}
 use Rattle.std.specs.List.{list_all, list_any}
+use Rattle.std.specs.Result.{IsErrAnd}
 use Rattle.std.specs.Str.{bytes_eq}
 use Rattle.std.proofs.Math.Seq.{drop-cons}
 use Rattle.std.proofs.lemmas.List.{drop_all}
@@ -10,13 +11,17 @@ use Rattle.semantics.specs.Deck.{look_up}
 use Rattle.semantics.specs.Valid.{small_volts}
 use Rattle.deck_cards.specs.declared.which.Which.TheVariants.{Volts}
 use Rattle.deck_reader.specs.declared.why.DeckWhy.{DeckWhy}
-use Rattle.deck_reader.specs.declared.why.DeckWhy.TheVariants.{Limit}
+use Rattle.deck_reader.specs.declared.why.DeckWhy.TheVariants.{WrongWords, Limit, Memory}
 use Rattle.deck_reader.specs.Words.{Word}
-use Rattle.deck_reader.specs.Told.{voltage_limit}
-use Rattle.deck_reader.specs.Voltages.{IsSeen}
+use Rattle.deck_reader.specs.Told.{voltage_limit, with_initial}
+use Rattle.deck_cards.specs.Settled.{put}
+use Rattle.deck_reader.specs.Numbers.{◌>>=◌, Gives}
+use Rattle.deck_reader.specs.Dots.{are_triples, voltage, voltages_of, initial}
+use Rattle.deck_reader.specs.Voltages.{IsSeen, held}
+use Rattle.deck_reader.proofs.InversionLemmas.{ok_same}
 
 -- where all are small, none is outside its limit
-pub none_large : (voltages : List (Word × ℤ)) → list_all (λ p. small_volts p.1) voltages ≡ true → voltage_limit voltages ≡ None
+none_large : (voltages : List (Word × ℤ)) → list_all (λ p. small_volts p.1) voltages ≡ true → voltage_limit voltages ≡ None
 unfolding voltage_limit
 none_large [] all = refl
 none_large (p ∷ voltages) all = by (is_some (look_up p.0 voltages)) (small_volts p.1) (list_all (λ q. small_volts q.1) voltages) all (none_large voltages)
@@ -27,6 +32,103 @@ none_large (p ∷ voltages) all = by (is_some (look_up p.0 voltages)) (small_vol
     by false true true all' ih = ih refl
     by again true false all' ih = absurd (cc)
     by again false rest all' ih = absurd (cc)
+
+-- one more voltage of a card
+pub held-next : (before : List (Word × ℤ)) (small : Bool) (key name volts : Word) (words : List Word) (p : Word × ℤ) → voltage name volts ≡ Ok p
+    → held before small (key ∷ name ∷ volts ∷ words) ≡ held (put before p) (small && small_volts p.1) words
+unfolding held voltages_of
+held-next before small key name volts words p is = ap (λ v. (v >>= (λ q. voltages_of words >>= (λ qs. Ok (q ∷ qs)))) >>= whole) is ∙ by (voltages_of words)
+  where
+    whole : List (Word × ℤ) → Result (List (Word × ℤ) × Bool) DeckWhy
+    whole vs = Ok (fold put before vs, small && list_all (λ q. small_volts q.1) vs)
+
+    rest : List (Word × ℤ) → Result (List (Word × ℤ) × Bool) DeckWhy
+    rest vs = Ok (fold put (put before p) vs, (small && small_volts p.1) && list_all (λ q. small_volts q.1) vs)
+
+    moved : (a b c : Bool) → (a && (b && c)) ≡ ((a && b) && c)
+    moved true b c = refl
+    moved false b c = refl
+
+    by : (said : Result (List (Word × ℤ)) DeckWhy) → (said >>= (λ qs. Ok (p ∷ qs))) >>= whole ≡ said >>= rest
+    by (Ok vs) = ap (λ b. Ok (fold put (put before p) vs, b)) (moved small (small_volts p.1) (list_all (λ q. small_volts q.1) vs))
+    by (Err why) = refl
+
+-- a card of which a word is a bad number has none of its voltages
+pub held-bad : (before : List (Word × ℤ)) (small : Bool) (words : List Word) (why : DeckWhy) → held before small words ≡ Err why → voltages_of words ≡ Err why
+unfolding held
+held-bad before small words why is = by (voltages_of words) is
+  where
+    whole : List (Word × ℤ) → Result (List (Word × ℤ) × Bool) DeckWhy
+    whole vs = Ok (fold put before vs, small && list_all (λ q. small_volts q.1) vs)
+
+    by : (said : Result (List (Word × ℤ)) DeckWhy) → said >>= whole ≡ Err why → said ≡ Err why
+    by (Ok vs) h = absurd (cc)
+    by (Err e) h = cc
+
+-- what is held, where each word is a number
+pub held-good : (before : List (Word × ℤ)) (words : List Word) (after : List (Word × ℤ)) (small : Bool) → held before true words ≡ Ok (after, small)
+    → (vs : List (Word × ℤ)) × (voltages_of words ≡ Ok vs) × (fold put before vs ≡ after) × (list_all (λ q. small_volts q.1) vs ≡ small)
+unfolding held
+held-good before words after small is = by (voltages_of words) refl is
+  where
+    whole : List (Word × ℤ) → Result (List (Word × ℤ) × Bool) DeckWhy
+    whole vs = Ok (fold put before vs, true && list_all (λ q. small_volts q.1) vs)
+
+    by : (said : Result (List (Word × ℤ)) DeckWhy) → voltages_of words ≡ said → said >>= whole ≡ Ok (after, small)
+        → (vs : List (Word × ℤ)) × (voltages_of words ≡ Ok vs) × (fold put before vs ≡ after) × (list_all (λ q. small_volts q.1) vs ≡ small)
+    by (Ok vs) said h =
+        let pair = ok_same (fold put before vs, list_all (λ (q : Word × ℤ). small_volts q.1) vs) (after, small) h in
+        (vs, said, ap (λ p. p.0) pair, ap (λ p. p.1) pair)
+    by (Err e) said h = absurd (cc)
+
+-- an error that is handed on
+pub hands_on : {A : Type 0} (r : Result A DeckWhy) (e : DeckWhy) (said : Result A DeckWhy) → IsErrAnd r (λ x. x ≡ e) → (e ≡ Memory) ⊎ (said ≡ Err e) → Gives r said
+hands_on (Ok x) e said h g = absurd h
+hands_on (Err x) e said h g = subst (λ y. (y ≡ Memory) ⊎ (said ≡ Err y)) (sym h) g
+
+pub wrong_words : (before : List (Word × ℤ)) (words : List Word) → are_triples words ≡ false → with_initial before words ≡ Err WrongWords
+unfolding with_initial initial
+wrong_words before words none = ap (λ b. (if b then voltages_of words else Err WrongWords) >>= rest) none
+  where
+    rest : List (Word × ℤ) → Result (List (Word × ℤ)) DeckWhy
+    rest voltages = elim (voltage_limit voltages) [ Some why ↦ Err why | None ↦ Ok (fold put before voltages) ]
+
+pub bad_voltages : (before : List (Word × ℤ)) (words : List Word) (why : DeckWhy) → are_triples words ≡ true → (why ≡ Memory) ⊎ (voltages_of words ≡ Err why)
+    → (why ≡ Memory) ⊎ (with_initial before words ≡ Err why)
+unfolding with_initial initial
+bad_voltages before words why triples (inl memory) = inl memory
+bad_voltages before words why triples (inr is) = inr (λ i. (if triples i then is i else Err WrongWords) >>= rest)
+  where
+    rest : List (Word × ℤ) → Result (List (Word × ℤ)) DeckWhy
+    rest voltages = elim (voltage_limit voltages) [ Some why ↦ Err why | None ↦ Ok (fold put before voltages) ]
+
+pub bad_held : (before : List (Word × ℤ)) (words : List Word) (why : DeckWhy) → are_triples words ≡ true → (why ≡ Memory) ⊎ (held before true words ≡ Err why)
+    → (why ≡ Memory) ⊎ (with_initial before words ≡ Err why)
+bad_held before words why triples (inl memory) = inl memory
+bad_held before words why triples (inr is) = bad_voltages before words why triples (inr (held-bad before true words why is))
+
+pub good_voltages : (before : List (Word × ℤ)) (words : List Word) (vs : List (Word × ℤ)) (limit : Option DeckWhy) → are_triples words ≡ true → voltages_of words ≡ Ok vs → voltage_limit vs ≡ limit
+    → with_initial before words ≡ elim limit [ Some why ↦ Err why | None ↦ Ok (fold put before vs) ]
+unfolding with_initial initial
+good_voltages before words vs limit triples is within =
+    (λ i. (if triples i then is i else Err WrongWords) >>= rest) ∙ ap (λ (o : Option DeckWhy). elim o [ Some why ↦ Err why | None ↦ Ok (fold put before vs) ]) within
+  where
+    rest : List (Word × ℤ) → Result (List (Word × ℤ)) DeckWhy
+    rest voltages = elim (voltage_limit voltages) [ Some why ↦ Err why | None ↦ Ok (fold put before voltages) ]
+
+-- all that were read are small
+pub small_held : (before : List (Word × ℤ)) (words : List Word) (after : List (Word × ℤ)) → are_triples words ≡ true → held before true words ≡ Ok (after, true) → with_initial before words ≡ Ok after
+small_held before words after triples is =
+    let good = held-good before words after true is in
+    good_voltages before words good.0 None triples good.1 (none_large good.0 good.3) ∙ ap Ok good.2
+
+-- none that is not small is looked at
+pub unlimited_held : (before : List (Word × ℤ)) (words : List Word) (after vs : List (Word × ℤ)) (small : Bool) → are_triples words ≡ true → held before true words ≡ Ok (after, small)
+    → voltages_of words ≡ Ok vs → voltage_limit vs ≡ None → with_initial before words ≡ Ok after
+unlimited_held before words after vs small triples is said none =
+    let good = held-good before words after small is in
+    let same : good.0 ≡ vs = ok_same good.0 vs (sym good.1 ∙ said) in
+    good_voltages before words vs None triples said none ∙ ap (λ l. Ok (fold put before l)) (sym same) ∙ ap Ok good.2
 
 -- one place further to the front
 pub drop-back : {X : Type 0} (xs : List X) (i : ℕ) (x : X) → 0 < i → i ≤ length xs → x ≡ get_or xs (i - 1) x → drop (i - 1) xs ≡ x ∷ drop i xs

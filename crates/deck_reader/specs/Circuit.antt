@@ -6,10 +6,9 @@ use Rattle.semantics.specs.declared.element.Element.{Element}
 use Rattle.semantics.specs.Deck.{name_of, ends_of, with_node, first_some}
 use Rattle.semantics.specs.Valid.{is_grounded, driven_of}
 use Rattle.deck_cards.specs.declared.which.Which.TheVariants.{Elements, Nodes}
-use Rattle.deck_cards.specs.Causes.{first_that, is_named, is_driven}
+use Rattle.deck_cards.specs.Causes.{first_that, is_named, is_driven, element_limit}
 use Rattle.deck_reader.specs.declared.why.DeckWhy.{DeckWhy}
 use Rattle.deck_reader.specs.declared.why.DeckWhy.TheVariants.{DuplicateName, NotGrounded, TwoDrivers, Limit}
-use Rattle.deck_reader.specs.declared.element.ElementCard.{ElementCard}
 use Rattle.deck_reader.specs.Words.{Word}
 
 -- the elements, each with the line of its card
@@ -32,15 +31,15 @@ unfoldable pub line_of : Circuit → Word → ℕ
 line_of circuit node = unwrap_or (first_some (end_line node) circuit) 0
 
 -- why an element can't stand behind these
-unfoldable pub element_fault : Circuit → ElementCard → Option DeckWhy
-element_fault circuit card =
-    if is_named (elements_of circuit) (name_of card.element) then Some (DuplicateName (name_of card.element))
-    else if not (is_grounded card.element) then Some (NotGrounded (name_of card.element))
-    else elim (first_that (is_driven (elements_of circuit)) (driven_of card.element)) [
+unfoldable pub element_fault : Circuit → Element → Option DeckWhy
+element_fault circuit element =
+    if is_named (elements_of circuit) (name_of element) then Some (DuplicateName (name_of element))
+    else if not (is_grounded element) then Some (NotGrounded (name_of element))
+    else elim (first_that (is_driven (elements_of circuit)) (driven_of element)) [
       | Some node ↦ Some (TwoDrivers node)
-      | None ↦ elim card.limit [
-        | Some which ↦ Some (Limit which (name_of card.element))
-        | None ↦ if nat_le 100000 (length circuit) then Some (Limit Elements (name_of card.element)) else None
+      | None ↦ elim (element_limit element) [
+        | Some which ↦ Some (Limit which (name_of element))
+        | None ↦ if nat_le 100000 (length circuit) then Some (Limit Elements (name_of element)) else None
       ]
     ]
 
@@ -51,8 +50,8 @@ with_placed circuit line element =
     if nat_lt 100000 (length (nodes_of more)) then Err (Limit Nodes (name_of element)) else Ok more
 
 -- the elements with that of one more card
-unfoldable pub with_element : Circuit → ℕ → ElementCard → Result Circuit DeckWhy
-with_element circuit line card = elim (element_fault circuit card) [
+unfoldable pub with_element : Circuit → ℕ → Element → Result Circuit DeckWhy
+with_element circuit line element = elim (element_fault circuit element) [
   | Some why ↦ Err why
-  | None ↦ with_placed circuit line card.element
+  | None ↦ with_placed circuit line element
 ]

@@ -37,15 +37,15 @@ initial words = if are_triples words then voltages_of words else Err WrongWords
 
 -- ---- .options
 
-abbrev pub is_grain : Word → Bool
-is_grain word = bytes_eq word (codes "grain")
+abbrev pub is_grain_key : Word → Bool
+is_grain_key word = bytes_eq word (codes "grain")
 
 -- the values of `grain`, each the word behind one; None where the last has none. Every other word is skipped
 unfoldable pub grain_values : List Word → Option (List Word)
 grain_values [] = Some []
-grain_values (word ∷ []) = if is_grain word then None else Some []
+grain_values (word ∷ []) = if is_grain_key word then None else Some []
 grain_values (word ∷ next ∷ words) =
-    if is_grain word then option_map (λ values. next ∷ values) (grain_values words) else grain_values (next ∷ words)
+    if is_grain_key word then option_map (λ values. next ∷ values) (grain_values words) else grain_values (next ∷ words)
 
 -- the last of these
 abbrev pub last_of : List ℤ → Option ℤ

@@ -1,49 +1,38 @@
 -- What the card of an element says.
-use Rattle.std.specs.Prelude.{◌^◌, pos, List, [], ◌∷◌, Bool, ◌&&◌, ◌||◌, if◌then◌else◌, Option, Some, None, Result, Ok, Err, codes}
+use Rattle.std.specs.Prelude.{◌^◌, pos, List, [], ◌∷◌, Bool, ◌||◌, if◌then◌else◌, Option, Some, None, Result, Ok, Err, codes}
 use Rattle.std.specs.Str.{bytes_eq}
 use Rattle.spice_num.specs.declared.units.Unit.TheVariants.{Ohm, Farad, Length}
 use Rattle.semantics.specs.declared.element.Element.{Element}
 use Rattle.semantics.specs.declared.element.Element.TheVariants.{Resistor, Capacitor, Source, Mos}
-use Rattle.semantics.specs.Valid.{some_ohms, some_farads, some_metres}
 use Rattle.deck_lexer.specs.Cards.{begins_with}
-use Rattle.deck_cards.specs.declared.which.Which.{Which}
-use Rattle.deck_cards.specs.declared.which.Which.TheVariants.{Ohms, Farads, Metres}
 use Rattle.deck_reader.specs.declared.why.DeckWhy.{DeckWhy}
 use Rattle.deck_reader.specs.declared.why.DeckWhy.TheVariants.{Unsupported, WrongWords}
-use Rattle.deck_reader.specs.declared.element.ElementCard.{ElementCard}
 use Rattle.deck_reader.specs.declared.device.Size.{Size}
 use Rattle.deck_reader.specs.Words.{Word, node, are_pairs}
 use Rattle.deck_reader.specs.Numbers.{number, ◌>>=◌}
-use Rattle.deck_reader.specs.Sources.{source_points, wave_of, points_limit}
-
--- an element, and what the first value of its card that is outside its limit is of
-abbrev pub says : Element → Option Which → ElementCard
-says element limit = record { element = element; limit = limit }
-
-abbrev pub outside : Bool → Which → Option Which
-outside within which = if within then None else Some which
+use Rattle.deck_reader.specs.Sources.{source_points, wave_of}
 
 -- ---- resistor, capacitor, source
 
 -- rNAME NODE NODE OHMS
-unfoldable pub resistor : List Word → Result ElementCard DeckWhy
+unfoldable pub resistor : List Word → Result Element DeckWhy
 resistor (name ∷ first ∷ second ∷ ohms ∷ []) = do
   z ← number Ohm ohms
-  Ok (says (Resistor name (node first) (node second) z) (outside (some_ohms z) Ohms))
+  Ok (Resistor name (node first) (node second) z)
 resistor _ = Err WrongWords
 
 -- cNAME NODE NODE FARADS
-unfoldable pub capacitor : List Word → Result ElementCard DeckWhy
+unfoldable pub capacitor : List Word → Result Element DeckWhy
 capacitor (name ∷ plus ∷ minus ∷ farads ∷ []) = do
   z ← number Farad farads
-  Ok (says (Capacitor name (node plus) (node minus) z) (outside (some_farads z) Farads))
+  Ok (Capacitor name (node plus) (node minus) z)
 capacitor _ = Err WrongWords
 
 -- vNAME NODE NODE, and the words of its voltage
-unfoldable pub source : List Word → Result ElementCard DeckWhy
+unfoldable pub source : List Word → Result Element DeckWhy
 source (name ∷ plus ∷ minus ∷ volts) = do
   points ← source_points volts
-  Ok (says (Source name (node plus) (node minus) (wave_of points)) (points_limit points))
+  Ok (Source name (node plus) (node minus) (wave_of points))
 source _ = Err WrongWords
 
 -- ---- device
@@ -92,13 +81,11 @@ with_keys size (key ∷ value ∷ words) = do
 with_keys size _ = Ok size
 
 -- the device of a size
-abbrev pub mos : Word → Word → Word → Word → Word → Word → Size → ElementCard
-mos name drain gate source bulk part size =
-    says (Mos name (node drain) (node gate) (node source) (node bulk) part size.length size.width)
-    (outside (some_metres size.length && some_metres size.width) Metres)
+abbrev pub mos : Word → Word → Word → Word → Word → Word → Size → Element
+mos name drain gate source bulk part size = Mos name (node drain) (node gate) (node source) (node bulk) part size.length size.width
 
 -- mNAME DRAIN GATE SOURCE BULK PART, and pairs of a key and its value
-unfoldable pub device : List Word → Result ElementCard DeckWhy
+unfoldable pub device : List Word → Result Element DeckWhy
 device (name ∷ drain ∷ gate ∷ source ∷ bulk ∷ part ∷ keys) = elim (foreign_key keys) [
   | Some key ↦ Err (Unsupported key)
   | None ↦ if are_pairs keys then (do
@@ -110,7 +97,7 @@ device _ = Err WrongWords
 -- ---- any element
 
 -- the first letter of its name says its kind: r, c, v or m
-unfoldable pub element : List Word → Result ElementCard DeckWhy
+unfoldable pub element : List Word → Result Element DeckWhy
 element [] = Err WrongWords
 element (name ∷ words) =
     if begins_with 114 name then resistor (name ∷ words)

@@ -9,9 +9,7 @@ use Rattle.deck_reader.specs.Elements.{element}
 
 -- an element
 unfoldable pub element_at : Card → ℕ → Result Element DeckWhy
-element_at line from = do
-  card ← element (drop from line.words)
-  Ok card.element
+element_at line from = element (drop from line.words)
 
 -- the voltage of a source
 unfoldable pub wave_at : Card → ℕ → Result (List (ℕ × ℤ)) DeckWhy

@@ -13,7 +13,6 @@ use Rattle.deck_lexer.specs.Reading.{deck_cards, deck_fault, deck_end}
 use Rattle.deck_cards.specs.declared.edit_refusal.EditRefusal.{EditRefusal}
 use Rattle.deck_cards.specs.declared.edit_refusal.EditRefusal.TheVariants as edit
 use Rattle.deck_cards.specs.Causes.{first_of, uncapped, no_initial, node_farads, many_terminals}
-use Rattle.deck_cards.specs.Settled.{settled}
 use Rattle.deck_reader.specs.declared.why.DeckWhy.{DeckWhy}
 use Rattle.deck_reader.specs.declared.why.DeckWhy.TheVariants.{NotAscii, ContinuesNothing, NoTran, NoSuchModel, Uncapped, NoInitial, Limit, NoEnd, Memory}
 use Rattle.deck_reader.specs.declared.why.DeckRefusal.{DeckRefusal}
@@ -49,8 +48,8 @@ lexer_refusal (lexer.NoEnd line) = at line NoEnd
 
 -- ---- the whole deck
 
--- the deck that is told, with all parts and initial voltages
-abbrev pub told_deck : List ℕ → Told → ℕ × Bool → DeckValue
+-- the deck that is told
+unfoldable pub told_deck : List ℕ → Told → ℕ × Bool → DeckValue
 told_deck title told span = record {
   title = title;
   stop = span.0;
@@ -60,10 +59,6 @@ told_deck title told span = record {
   initial = told.initial;
   elements = elements_of told.circuit;
 }
-
--- the same, where the last voltage of each node holds
-unfoldable pub deck_of : List ℕ → Told → ℕ × Bool → DeckValue
-deck_of title told span = settled (told_deck title told span)
 
 -- a device whose part is not defined, at its line
 abbrev pub missing_part : List (Word × Part) → ℕ × Element → Option DeckRefusal
@@ -96,7 +91,7 @@ whole title end told = elim told.span [
   | None ↦ Err (at end NoTran)
   | Some span ↦ elim (no_such_model told) [
     | Some refusal ↦ Err refusal
-    | None ↦ sound (line_of told.circuit) (deck_of title told span)
+    | None ↦ sound (line_of told.circuit) (told_deck title told span)
   ]
 ]
 

@@ -1,12 +1,9 @@
 -- What the card of a source says: its points, from the words behind its nodes.
-use Rattle.std.specs.Prelude.{ℕ, ◌+◌, ◌^◌, ℤ, pos, int_le, int_lt, unsigned_abs, List, [], ◌∷◌, map, drop, Bool, not, ◌&&◌, ◌||◌, true, false, if◌then◌else◌, Option, Some, None, Result, Ok, Err, codes, is_ok}
+use Rattle.std.specs.Prelude.{ℕ, ◌+◌, ◌^◌, ℤ, pos, int_le, int_lt, unsigned_abs, List, [], ◌∷◌, map, drop, Bool, not, ◌||◌, true, false, if◌then◌else◌, Option, Some, None, Result, Ok, Err, codes, is_ok}
 use Rattle.std.specs.List.{list_all, zip}
 use Rattle.std.specs.Str.{bytes_eq}
 use Rattle.spice_num.specs.declared.units.Unit.TheVariants.{Time, Volt}
 use Rattle.spice_num.specs.Number.{number_of}
-use Rattle.semantics.specs.Valid.{small_volts}
-use Rattle.deck_cards.specs.declared.which.Which.{Which}
-use Rattle.deck_cards.specs.declared.which.Which.TheVariants.{Volts, Seconds}
 use Rattle.deck_reader.specs.declared.why.DeckWhy.{DeckWhy}
 use Rattle.deck_reader.specs.declared.why.DeckWhy.TheVariants.{Unsupported, WrongWords, TimesNotRising}
 use Rattle.deck_reader.specs.declared.source.Form.{Form}
@@ -103,13 +100,3 @@ late_points = (10 ^ 10 + 1, pos 0) ∷ []
 unfoldable pub wave_of : List (ℤ × ℤ) → List (ℕ × ℤ)
 wave_of points =
     if list_all (λ p. int_le (pos 0) p.0) points then map (λ p. (unsigned_abs p.0, p.1)) points else late_points
-
--- a time of at most 10 ms, and not below 0
-abbrev pub is_time : ℤ → Bool
-is_time t = int_le (pos 0) t && int_le t (pos (10 ^ 10))
-
--- what is outside its limit first
-unfoldable pub points_limit : List (ℤ × ℤ) → Option Which
-points_limit [] = None
-points_limit (p ∷ points) =
-    if not (is_time p.0) then Some Seconds else if not (small_volts p.1) then Some Volts else points_limit points

@@ -1,12 +1,9 @@
 -- What a `.table` card says, from the words behind its name.
 use Rattle.std.specs.Prelude.{◌+◌, ◌*◌, nat_lt, ◌==◌, ℤ, List, [], ◌∷◌, length, take, drop, not, ◌||◌, if◌then◌else◌, Option, Some, None, Result, Ok, Err, codes}
-use Rattle.std.specs.List.{list_all}
 use Rattle.std.specs.Str.{bytes_eq}
 use Rattle.spice_num.specs.declared.units.Unit.TheVariants.{Volt, Amp}
-use Rattle.semantics.specs.Valid.{rising, small_volts, small_amps}
+use Rattle.semantics.specs.Valid.{rising}
 use Rattle.device_tables.specs.Table.{TableValue}
-use Rattle.deck_cards.specs.declared.which.Which.{Which}
-use Rattle.deck_cards.specs.declared.which.Which.TheVariants.{Volts, Amps}
 use Rattle.deck_reader.specs.declared.why.DeckWhy.{DeckWhy}
 use Rattle.deck_reader.specs.declared.why.DeckWhy.TheVariants.{WrongWords, TooManyThresholds, NotRising, WrongCount}
 use Rattle.deck_reader.specs.declared.table.Lists.{Lists}
@@ -54,10 +51,3 @@ table_of words = elim (lists_of words) [
     amps ← numbers Amp lists.amps
     table_or (table_fault gate drain amps) (record { gate = gate; drain = drain; amps = amps })
 ]
-
--- what is outside its limit first: thresholds stand before currents
-abbrev pub table_limit : TableValue → Option Which
-table_limit t =
-    if not (list_all small_volts t.gate) || not (list_all small_volts t.drain) then Some Volts
-    else if not (list_all small_amps t.amps) then Some Amps
-    else None

@@ -1,19 +1,20 @@
 -- What the cards of a deck have said so far, and what one more card makes of it.
-use Rattle.std.specs.Prelude.{ℕ, ℤ, pos, int_le, unsigned_abs, List, [], ◌∷◌, ◌++◌, Bool, ◌&&◌, ◌||◌, if◌then◌else◌, Option, Some, None, is_some, Result, Ok, Err, codes}
+use Rattle.std.specs.Prelude.{ℕ, ℤ, pos, int_le, unsigned_abs, List, [], ◌∷◌, ◌++◌, Bool, ◌&&◌, ◌||◌, if◌then◌else◌, fold, Option, Some, None, is_some, Result, Ok, Err, codes}
 use Rattle.std.specs.Str.{bytes_eq}
 use Rattle.semantics.specs.Part.{Part, Listed}
 use Rattle.semantics.specs.Deck.{look_up}
-use Rattle.semantics.specs.Valid.{small_volts, some_grain}
+use Rattle.semantics.specs.Valid.{small_volts, some_grain, short_time}
 use Rattle.deck_cards.specs.declared.which.Which.TheVariants.{Volts, Seconds, Grain}
+use Rattle.deck_cards.specs.Causes.{part_limit}
+use Rattle.deck_cards.specs.Settled.{put}
 use Rattle.deck_reader.specs.declared.why.DeckWhy.{DeckWhy}
 use Rattle.deck_reader.specs.declared.why.DeckWhy.TheVariants.{WrongWords, DuplicateModel, SecondTran, Limit}
 use Rattle.deck_reader.specs.declared.tran.Span.{Span}
 use Rattle.deck_reader.specs.declared.told.Told.{Told}
 use Rattle.deck_reader.specs.Words.{Word}
 use Rattle.deck_reader.specs.Numbers.{◌>>=◌}
-use Rattle.deck_reader.specs.Sources.{is_time}
 use Rattle.deck_reader.specs.Elements.{element}
-use Rattle.deck_reader.specs.Tables.{table_of, table_limit}
+use Rattle.deck_reader.specs.Tables.{table_of}
 use Rattle.deck_reader.specs.Dots.{initial, options, tran}
 use Rattle.deck_reader.specs.Circuit.{with_element}
 
@@ -21,15 +22,19 @@ use Rattle.deck_reader.specs.Circuit.{with_element}
 abbrev pub nothing : Told
 nothing = record { circuit = []; tables = []; initial = []; grain = 50000; span = None }
 
--- .table NAME and its lists
+-- .table NAME and its lists: the name is new, and each value in its limit
+abbrev pub with_part : List (Word × Part) → Word → Part → Result (List (Word × Part)) DeckWhy
+with_part tables name part =
+    if is_some (look_up name tables) then Err (DuplicateModel name) else elim (part_limit part) [
+      | Some which ↦ Err (Limit which name)
+      | None ↦ Ok (tables ++ (name, part) ∷ [])
+    ]
+
 unfoldable pub with_table : List (Word × Part) → List Word → Result (List (Word × Part)) DeckWhy
 with_table tables [] = Err WrongWords
 with_table tables (name ∷ words) = do
   table ← table_of words
-  if is_some (look_up name tables) then Err (DuplicateModel name) else elim (table_limit table) [
-    | Some which ↦ Err (Limit which name)
-    | None ↦ Ok (tables ++ (name, Listed table.gate table.drain table.amps) ∷ [])
-  ]
+  with_part tables name (Listed table.gate table.drain table.amps)
 
 -- the first voltage outside its limit; one whose node stands again behind it is not looked at
 unfoldable pub voltage_limit : List (Word × ℤ) → Option DeckWhy
@@ -37,11 +42,11 @@ voltage_limit [] = None
 voltage_limit (p ∷ voltages) =
     if is_some (look_up p.0 voltages) || small_volts p.1 then voltage_limit voltages else Some (Limit Volts p.0)
 
--- .ic: the last voltage of a node holds
+-- .ic: the last voltage of a node holds, at the place of its first
 unfoldable pub with_initial : List (Word × ℤ) → List Word → Result (List (Word × ℤ)) DeckWhy
 with_initial before words = do
   voltages ← initial words
-  elim (voltage_limit voltages) [ Some why ↦ Err why | None ↦ Ok (before ++ voltages) ]
+  elim (voltage_limit voltages) [ Some why ↦ Err why | None ↦ Ok (fold put before voltages) ]
 
 abbrev pub is_grain : ℤ → Bool
 is_grain z = int_le (pos 0) z && some_grain (unsigned_abs z)
@@ -56,11 +61,14 @@ with_options before word words = do
   grain ← options words
   grain_after before word grain
 
--- .tran: the stop tick, and whether there is `uic`
+-- .tran: the stop tick, which is at most 10 ms, and whether there is `uic`
+abbrev pub is_stop : ℤ → Bool
+is_stop t = int_le (pos 0) t && short_time (unsigned_abs t)
+
 abbrev pub span_after : Option (ℕ × Bool) → Word → Span → Result (Option (ℕ × Bool)) DeckWhy
 span_after before word span =
     if is_some before then Err SecondTran
-    else if is_time span.stop then Ok (Some (unsigned_abs span.stop, span.uic))
+    else if is_stop span.stop then Ok (Some (unsigned_abs span.stop, span.uic))
     else Err (Limit Seconds word)
 
 unfoldable pub with_tran : Option (ℕ × Bool) → Word → List Word → Result (Option (ℕ × Bool)) DeckWhy
@@ -76,24 +84,40 @@ is_output word =
 abbrev pub is_options : Word → Bool
 is_options word = bytes_eq word (codes ".options") || bytes_eq word (codes ".option")
 
+-- what the words of a card make of what is told
+abbrev pub tables_told : Told → List Word → Result Told DeckWhy
+tables_told told words = do
+  tables ← with_table told.tables words
+  Ok (record told { tables = tables })
+
+abbrev pub initial_told : Told → List Word → Result Told DeckWhy
+initial_told told words = do
+  voltages ← with_initial told.initial words
+  Ok (record told { initial = voltages })
+
+abbrev pub grain_told : Told → Word → List Word → Result Told DeckWhy
+grain_told told word words = do
+  grain ← with_options told.grain word words
+  Ok (record told { grain = grain })
+
+abbrev pub span_told : Told → Word → List Word → Result Told DeckWhy
+span_told told word words = do
+  span ← with_tran told.span word words
+  Ok (record told { span = span })
+
+abbrev pub circuit_told : Told → ℕ → List Word → Result Told DeckWhy
+circuit_told told line words = do
+  e ← element words
+  circuit ← with_element told.circuit line e
+  Ok (record told { circuit = circuit })
+
 -- what one more card of this line makes of what is told, or its first fault
 unfoldable pub with_words : Told → ℕ → List Word → Result Told DeckWhy
 with_words told line [] = Err WrongWords
 with_words told line (word ∷ words) =
-    if bytes_eq word (codes ".table") then (do
-      tables ← with_table told.tables words
-      Ok (record told { tables = tables }))
-    else if bytes_eq word (codes ".ic") then (do
-      voltages ← with_initial told.initial words
-      Ok (record told { initial = voltages }))
-    else if is_options word then (do
-      grain ← with_options told.grain word words
-      Ok (record told { grain = grain }))
-    else if bytes_eq word (codes ".tran") then (do
-      span ← with_tran told.span word words
-      Ok (record told { span = span }))
+    if bytes_eq word (codes ".table") then tables_told told words
+    else if bytes_eq word (codes ".ic") then initial_told told words
+    else if is_options word then grain_told told word words
+    else if bytes_eq word (codes ".tran") then span_told told word words
     else if is_output word then Ok told
-    else (do
-      card ← element (word ∷ words)
-      circuit ← with_element told.circuit line card
-      Ok (record told { circuit = circuit }))
+    else circuit_told told line (word ∷ words)

@@ -7,11 +7,10 @@ ghost use Rattle.deck_reader.specs.Numbers.{Gives};
 ghost use Rattle.deck_reader.specs.Circuit.{elements_of, element_fault, with_placed, with_element};
 ghost use Rattle.deck_reader.specs.Indexed.{node_lines};
 
-use crate::element::ElementCard;
-use crate::ends::{is_grounded, name_of};
 use crate::index::{driven_again, note_driven, note_ends, note_name};
+use crate::placed::Placed;
 use crate::why::DeckWhy;
-use deck_cards::Which;
+use deck_cards::{Which, element_limit, is_grounded, name_of};
 use indexmap::{IndexMap, IndexSet};
 use semantics::{Element, Name};
 use std::alloc::{AllocError, Global};
@@ -23,7 +22,7 @@ const MOST_THINGS: usize = 100_000;
 /// The elements that the cards of a deck have said so far, each with the line of its card.
 #[derive(Drop)]
 pub struct Circuit {
-    placed: Vec<(u32, Element)>,
+    placed: Placed,
     /// The names of the elements.
     names: IndexSet<Name>,
     /// The nodes that sources drive.
@@ -39,9 +38,9 @@ impl Model for Circuit {
 
     ghost Value = { List (ℕ × Element) };
 
-    ghost view = { λ c. c.placed.items };
+    ghost view = { λ c. c.placed };
 
-    ghost invariant = { λ c. IsIndexed c.placed.items c.names.keys c.driven.keys c.nodes.entries };
+    ghost invariant = { λ c. IsIndexed c.placed c.names.keys c.driven.keys c.nodes.entries };
 }
 
 /// Whether there are more nodes than a deck may have.
@@ -51,14 +50,6 @@ fn is_over(nodes: &IndexMap<Name, u32>) -> bool
     nodes.len() > MOST_THINGS
 }
 
-/// Puts an element with its line last.
-fn put(placed: &mut Vec<(u32, Element)>, line: u32, element: Element) -> Result<(), AllocError>
-    ensures { OnOk result (placed.new.items ≡ placed.old.items ++ (line, element) ∷ []) }
-{
-    placed.push((line, element))?;
-    Ok(())
-}
-
 impl Circuit {
     /// No element.
     #[tactic(auto, unfolding(crate::specs::Indexed::node_lines))]
@@ -66,7 +57,7 @@ impl Circuit {
         ensures { result ≡ [] }
     {
         Circuit {
-            placed: Vec::new(alloc),
+            placed: Placed::new(alloc),
             names: IndexSet::new(alloc),
             driven: IndexSet::new(alloc),
             nodes: IndexMap::new(alloc),
@@ -87,22 +78,22 @@ impl Circuit {
         driven_again(&self.driven, element)
     }
 
-    /// Why the element of a card can't stand behind these.
+    /// Why an element can't stand behind these.
     #[tactic(auto, unfolding(crate::specs::Circuit::element_fault))]
-    fn fault(&self, card: &ElementCard) -> Result<Option<DeckWhy>, AllocError>
-        ensures { IfOk result (λ fault. fault ≡ element_fault self.now card.now) }
+    fn fault(&self, element: &Element) -> Result<Option<DeckWhy>, AllocError>
+        ensures { IfOk result (λ fault. fault ≡ element_fault self.now element.now) }
     {
-        let name = name_of(&card.element);
+        let name = name_of(element);
         if self.is_named(name) {
             return Ok(Some(DeckWhy::DuplicateName(name.copy()?)));
         }
-        if !is_grounded(&card.element) {
+        if !is_grounded(element) {
             return Ok(Some(DeckWhy::NotGrounded(name.copy()?)));
         }
-        if let Some(node) = self.driven_again(&card.element) {
+        if let Some(node) = self.driven_again(element) {
             return Ok(Some(DeckWhy::TwoDrivers(node.copy()?)));
         }
-        if let Some(which) = card.limit {
+        if let Some(which) = element_limit(element) {
             return Ok(Some(DeckWhy::Limit(which, name.copy()?)));
         }
         if self.placed.len() >= MOST_THINGS {
@@ -120,7 +111,7 @@ impl Circuit {
         ensures { Gives result (with_placed self line element) }
     {
         let Circuit {
-            mut placed,
+            placed,
             mut names,
             mut driven,
             mut nodes,
@@ -131,9 +122,8 @@ impl Circuit {
         if is_over(&nodes) {
             return Err(DeckWhy::Limit(Which::Nodes, name_of(&element).copy()?));
         }
-        put(&mut placed, line, element)?;
         Ok(Circuit {
-            placed,
+            placed: placed.with(line, element)?,
             names,
             driven,
             nodes,
@@ -142,42 +132,28 @@ impl Circuit {
 
     /// These elements and that of one more card.
     #[tactic(auto, unfolding(crate::specs::Circuit::with_element))]
-    pub fn with_element(self, line: u32, card: ElementCard) -> Result<Circuit, DeckWhy>
-        ensures { Gives result (with_element self line card) }
+    pub fn with_element(self, line: u32, element: Element) -> Result<Circuit, DeckWhy>
+        ensures { Gives result (with_element self line element) }
     {
-        match self.fault(&card)? {
+        match self.fault(&element)? {
             Some(why) => Err(why),
-            None => self.with_placed(line, card.element),
+            None => self.with_placed(line, element),
         }
     }
 
     /// The elements, each with the line of its card.
-    pub fn placed(&self) -> &[(u32, Element)]
+    pub fn placed(&self) -> &Placed
         ensures { result.now ≡ self.now }
     {
         &self.placed
     }
 
     /// The elements, and the nodes, each with the line of the first card that has it at an end.
-    pub fn into_parts(
-        self,
-        alloc: Global,
-    ) -> Result<(Vec<Element>, IndexMap<Name, u32>), AllocError>
-        ensures elements { IfOk result (λ parts. parts.0.items ≡ elements_of self) }
-        ensures lines { IfOk result (λ parts. parts.1.entries ≡ node_lines self) }
+    pub fn into_parts(self) -> (Vec<Element>, IndexMap<Name, u32>)
+        ensures elements { result.0.items ≡ elements_of self }
+        ensures lines { result.1.entries ≡ node_lines self }
     {
         let Circuit { placed, nodes, .. } = self;
-        Ok((elements_of(alloc, placed)?, nodes))
+        (placed.into_elements(), nodes)
     }
-}
-
-/// The elements without their lines.
-fn elements_of(alloc: Global, placed: Vec<(u32, Element)>) -> Result<Vec<Element>, AllocError>
-    ensures { IfOk result (λ elements. elements.items ≡ elements_of placed.items) }
-{
-    let mut elements = Vec::with_capacity(alloc, placed.len())?;
-    for (_, element) in placed {
-        elements.push(element)?;
-    }
-    Ok(elements)
 }

@@ -1,21 +1,14 @@
-ghost use Rattle.std.specs.Prelude.{◌≡◌, ◌&&◌};
+ghost use Rattle.std.specs.Prelude.{◌≡◌};
 ghost use Rattle.deck_reader.specs.Numbers.{Gives};
-ghost use Rattle.deck_reader.specs.Elements.{is_length, is_width, is_key, is_skipped, foreign_key, default_size, with_key, with_keys, device, outside};
-ghost use Rattle.semantics.specs.Valid.{some_metres};
-ghost use Rattle.deck_cards.specs.declared.which.Which.TheVariants as which;
+ghost use Rattle.deck_reader.specs.Elements.{is_length, is_width, is_key, is_skipped, foreign_key, default_size, with_key, with_keys, device};
 
-use crate::element::ElementCard;
 use crate::number::number;
 use crate::source::are_pairs;
 use crate::why::DeckWhy;
 use crate::words::{Word, Words, node_of};
-use deck_cards::Which;
 use semantics::Element;
 use spice_num::Unit;
 use std::alloc::Global;
-
-/// The largest length or width of a channel, 1 mm in picometres.
-const MOST_METRES: i64 = 1_000_000_000;
 
 /// The length and the width of a channel, in picometres.
 #[derive(Clone, Copy)]
@@ -92,27 +85,9 @@ fn size_of(alloc: Global, keys: &mut Words<'_>) -> Result<Size, DeckWhy>
     Ok(size)
 }
 
-/// From 1 pm to 1 mm.
-fn is_some_metres(metres: &i64) -> bool
-    ensures { result ≡ some_metres metres.now }
-{
-    1 <= *metres && *metres <= MOST_METRES
-}
-
-/// `Metres`, where the length or the width is below 1 pm or above 1 mm.
-fn limit_of(size: &Size) -> Option<Which>
-    ensures { result ≡ outside (some_metres size.now.length && some_metres size.now.width) which.Metres }
-{
-    if is_some_metres(&size.length) && is_some_metres(&size.width) {
-        None
-    } else {
-        Some(Which::Metres)
-    }
-}
-
 /// The card `mNAME DRAIN GATE SOURCE BULK PART`, and pairs of a key and its value.
 #[tactic(auto, unfolding(crate::specs::Elements::device))]
-pub fn device(alloc: Global, words: &mut Words<'_>) -> Result<ElementCard, DeckWhy>
+pub fn device(alloc: Global, words: &mut Words<'_>) -> Result<Element, DeckWhy>
     ensures { Gives result (device words.old) }
 {
     let name = words.next().ok_or(DeckWhy::WrongWords)?;
@@ -128,18 +103,14 @@ pub fn device(alloc: Global, words: &mut Words<'_>) -> Result<ElementCard, DeckW
         return Err(DeckWhy::WrongWords);
     }
     let size = size_of(alloc, words)?;
-    let limit = limit_of(&size);
-    Ok(ElementCard {
-        element: Element::Mos {
-            name: name.to_name(alloc)?,
-            drain: node_of(alloc, &drain)?,
-            gate: node_of(alloc, &gate)?,
-            source: node_of(alloc, &source)?,
-            bulk: node_of(alloc, &bulk)?,
-            part: part.to_name(alloc)?,
-            length: size.length,
-            width: size.width,
-        },
-        limit,
+    Ok(Element::Mos {
+        name: name.to_name(alloc)?,
+        drain: node_of(alloc, &drain)?,
+        gate: node_of(alloc, &gate)?,
+        source: node_of(alloc, &source)?,
+        bulk: node_of(alloc, &bulk)?,
+        part: part.to_name(alloc)?,
+        length: size.length,
+        width: size.width,
     })
 }

@@ -11,21 +11,13 @@ use crate::resistor::resistor;
 use crate::source::{source, source_points};
 use crate::why::DeckWhy;
 use crate::words::Words;
-use deck_cards::Which;
 use deck_lexer::CardLine;
 use semantics::{Element, Wave};
 use std::alloc::Global;
 
-/// An element, and what the first value of its card that is outside its limit is of.
-#[derive(Drop)]
-pub struct ElementCard {
-    pub element: Element,
-    pub limit: Option<Which>,
-}
-
 /// The element of these words. The first letter of its name says its kind.
 #[tactic(auto, unfolding(crate::specs::Elements::element))]
-pub fn element(alloc: Global, words: &mut Words<'_>) -> Result<ElementCard, DeckWhy>
+pub fn element(alloc: Global, words: &mut Words<'_>) -> Result<Element, DeckWhy>
     ensures { Gives result (element words.old) }
 {
     let name = words.get(0).ok_or(DeckWhy::WrongWords)?;
@@ -56,7 +48,7 @@ pub fn element(alloc: Global, words: &mut Words<'_>) -> Result<ElementCard, Deck
 pub fn read_element(alloc: Global, line: &CardLine, from: usize) -> Result<Element, DeckWhy>
     ensures { Gives result (element_at line.now from) }
 {
-    Ok(element(alloc, &mut Words::of(line, from))?.element)
+    element(alloc, &mut Words::of(line, from))
 }
 
 /// The voltage that the words of a line say, from the place `from` on: those of the card of a source

@@ -1,20 +1,21 @@
 //! The `.ic` card: initial voltages.
 
-ghost use Rattle.std.specs.Prelude.{◌≡◌, [], IfOk};
-ghost use Rattle.std.specs.List.{list_all, list_any};
+ghost use Rattle.std.specs.Prelude.{◌≡◌, [], true, IfOk, OnOk};
+ghost use Rattle.std.specs.List.{list_any};
 ghost use Rattle.std.specs.Str.{bytes_eq};
 ghost use Rattle.deck_reader.specs.Numbers.{Gives, GivesItems};
-ghost use Rattle.deck_reader.specs.Dots.{are_triples, voltage, voltages_of, initial};
+ghost use Rattle.deck_reader.specs.Dots.{are_triples, voltage, voltages_of};
 ghost use Rattle.deck_reader.specs.Told.{with_initial, voltage_limit};
+ghost use Rattle.deck_reader.specs.Voltages.{held};
+ghost use Rattle.deck_cards.specs.Settled.{put};
 ghost use Rattle.semantics.specs.Valid.{small_volts};
 
 use crate::index::note_name;
 use crate::number::number;
-use crate::source::is_small;
 use crate::why::DeckWhy;
 use crate::words::{Word, Words, node_of};
-use deck_cards::Which;
-use indexmap::IndexSet;
+use deck_cards::{Which, limits};
+use indexmap::{IndexMap, IndexSet};
 use semantics::Name;
 use spice_num::Unit;
 use std::alloc::{AllocError, Global};
@@ -63,21 +64,65 @@ fn voltages_of(alloc: Global, words: &mut Words<'_>) -> Result<Vec<(Name, i64)>,
     Ok(voltages)
 }
 
-/// The voltages that the words behind `.ic` say, each with its node.
-#[tactic(auto, unfolding(crate::specs::Dots::initial))]
-fn initial(alloc: Global, words: &mut Words<'_>) -> Result<Vec<(Name, i64)>, DeckWhy>
-    ensures { GivesItems result (initial words.old) }
+/// The voltages that words leave of those before them, and whether each that was read is in its
+/// limit.
+#[derive(Drop)]
+struct Held {
+    voltages: IndexMap<Name, i64>,
+    are_small: bool,
+}
+
+impl Model for Held {
+    ghost use Rattle.std.specs.Prelude.{ℕ, ℤ, List, Bool};
+
+    ghost Value = { List (List ℕ × ℤ) × Bool };
+
+    ghost view = { λ h. (h.voltages.entries, h.are_small) };
+}
+
+/// Whether a voltage is in its limit.
+fn is_small(volts: &i64) -> bool
+    ensures { result ≡ small_volts volts.now }
 {
-    if !are_triples(&mut words.copy()) {
-        return Err(DeckWhy::WrongWords);
+    limits::is_small(*volts)
+}
+
+/// Puts a voltage: it takes the place of that of the same node, or stands last.
+fn put(voltages: &mut IndexMap<Name, i64>, node: Name, volts: i64) -> Result<(), AllocError>
+    ensures { OnOk result (voltages.new.entries ≡ put voltages.old.entries (node, volts)) }
+{
+    voltages.insert(node, volts)?;
+    Ok(())
+}
+
+/// The voltages that triples leave of those before them.
+#[tactic(auto, unfolding(crate::specs::Voltages::held, crate::specs::Dots::voltages_of))]
+fn hold(alloc: Global, before: IndexMap<Name, i64>, words: &mut Words<'_>) -> Result<Held, DeckWhy>
+    ensures { Gives result (held before.entries true words.old) }
+{
+    let mut voltages = before;
+    let mut are_small = true;
+    while let Some(_) = words.next() {
+        let Some(name) = words.next() else {
+            break;
+        };
+        let Some(value) = words.next() else {
+            break;
+        };
+        let (node, volts) = voltage(alloc, &name, &value)?;
+        are_small = are_small && is_small(&volts);
+        put(&mut voltages, node, volts)?;
     }
-    voltages_of(alloc, words)
+    Ok(Held {
+        voltages,
+        are_small,
+    })
 }
 
 /// The initial voltages that the cards of a deck have said so far, each with its node.
 #[derive(Drop)]
 pub struct Voltages {
-    pairs: Vec<(Name, i64)>,
+    voltages: IndexMap<Name, i64>,
 }
 
 impl Model for Voltages {
@@ -85,7 +130,7 @@ impl Model for Voltages {
 
     ghost Value = { List (List ℕ × ℤ) };
 
-    ghost view = { λ v. v.pairs.items };
+    ghost view = { λ v. v.voltages.entries };
 }
 
 impl Voltages {
@@ -94,29 +139,36 @@ impl Voltages {
         ensures { result ≡ [] }
     {
         Voltages {
-            pairs: Vec::new(alloc),
+            voltages: IndexMap::new(alloc),
         }
     }
 
     /// These voltages and those of the words behind `.ic`.
-    #[tactic(auto, unfolding(crate::specs::Told::with_initial))]
     pub fn with_initial(self, alloc: Global, words: &mut Words<'_>) -> Result<Voltages, DeckWhy>
         ensures { Gives result (with_initial self words.old) }
     {
-        let mut voltages = initial(alloc, words)?;
-        if let Some(why) = voltage_limit(alloc, &voltages)? {
-            return Err(why);
+        if !are_triples(&mut words.copy()) {
+            return Err(DeckWhy::WrongWords);
         }
-        let Voltages { mut pairs } = self;
-        pairs.append(&mut voltages)?;
-        Ok(Voltages { pairs })
+        let Held {
+            voltages,
+            are_small,
+        } = hold(alloc, self.voltages, &mut words.copy())?;
+        if !are_small {
+            // Which of them is told is found out by their list.
+            let list = voltages_of(alloc, words)?;
+            if let Some(why) = voltage_limit(alloc, &list)? {
+                return Err(why);
+            }
+        }
+        Ok(Voltages { voltages })
     }
 
-    /// All voltages, in the order of their cards.
-    pub fn into_pairs(self) -> Vec<(Name, i64)>
-        ensures { result.items ≡ self }
+    /// The voltages, each with its node.
+    pub fn into_pairs(self, alloc: Global) -> Result<Vec<(Name, i64)>, AllocError>
+        ensures { IfOk result (λ pairs. pairs.items ≡ self) }
     {
-        self.pairs
+        self.voltages.into_iter().collect(alloc)
     }
 }
 
@@ -127,22 +179,10 @@ fn is_named(names: &IndexSet<Name>, name: &Name) -> bool
     names.contains(name)
 }
 
-/// Whether no voltage is outside its limit.
-fn are_small(voltages: &[(Name, i64)]) -> bool
-    ensures { result ≡ list_all (λ p. small_volts p.1) voltages.now }
-{
-    voltages.iter().all(|voltage| is_small(&voltage.1))
-}
-
 /// The first voltage outside its limit; one whose node stands again behind it is not looked at.
-#[tactic(auto, using(crate::proofs::VoltageLemmas::none_large))]
 fn voltage_limit(alloc: Global, voltages: &[(Name, i64)]) -> Result<Option<DeckWhy>, AllocError>
     ensures { IfOk result (λ limit. limit ≡ voltage_limit voltages.now) }
 {
-    // Where all are small, no name has to be kept.
-    if are_small(voltages) {
-        return Ok(None);
-    }
     let mut later = IndexSet::new(alloc);
     let mut found = None;
     let mut left = voltages.len();

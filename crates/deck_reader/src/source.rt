@@ -5,24 +5,15 @@ ghost use Rattle.std.specs.List.{list_all};
 ghost use Rattle.deck_reader.specs.Numbers.{Gives, GivesItems};
 ghost use Rattle.deck_reader.specs.Words.{are_pairs};
 ghost use Rattle.deck_reader.specs.Elements.{source};
-ghost use Rattle.deck_reader.specs.Sources.{foreign_word, with_points, behind_value, form_of, point, points_of, level_of, form_points, are_rising, source_points, late_points, wave_of, is_time, points_limit};
-ghost use Rattle.semantics.specs.Valid.{small_volts};
+ghost use Rattle.deck_reader.specs.Sources.{foreign_word, with_points, behind_value, form_of, point, points_of, level_of, form_points, are_rising, source_points, late_points, wave_of};
 
-use crate::element::ElementCard;
 use crate::number::number;
 use crate::why::DeckWhy;
 use crate::words::{Word, Words, node_of};
-use deck_cards::Which;
 use semantics::{Element, Wave};
 use spice_num::{Unit, read_number};
 use std::alloc::{AllocError, Global};
 use std::marker::Model;
-
-/// The last time of a point, 10 ms in picoseconds.
-const MOST_TIME: i64 = 10_000_000_000;
-
-/// The largest voltage in size, 1,000 V in microvolts.
-const MOST_VOLTS: u64 = 1_000_000_000;
 
 /// The words of a voltage: its value, where one stands before `pwl` or there is no `pwl`, and those
 /// of the points behind `pwl`.
@@ -57,22 +48,6 @@ impl Points {
         ensures { IfOk result (λ wave. wave ≡ wave_of self.now) }
     {
         wave_of(alloc, &self.points)
-    }
-
-    /// What the first time or voltage that is outside its limit is of.
-    #[tactic(auto, unfolding(crate::specs::Sources::points_limit))]
-    pub fn limit(&self) -> Option<Which>
-        ensures { result ≡ points_limit self.now }
-    {
-        for point in &self.points {
-            if !is_time(&point.0) {
-                return Some(Which::Seconds);
-            }
-            if !is_small(&point.1) {
-                return Some(Which::Volts);
-            }
-        }
-        None
     }
 }
 
@@ -119,20 +94,6 @@ fn late_wave(alloc: Global) -> Result<Wave, AllocError>
         Ok(wave) => Ok(wave),
         Err(_) => unreachable!(),
     }
-}
-
-/// At most 10 ms, and not below 0.
-pub fn is_time(time: &i64) -> bool
-    ensures { result ≡ is_time time.now }
-{
-    0 <= *time && *time <= MOST_TIME
-}
-
-/// At most 1,000 V in size.
-pub fn is_small(volts: &i64) -> bool
-    ensures { result ≡ small_volts volts.now }
-{
-    volts.unsigned_abs() <= MOST_VOLTS
 }
 
 /// The first word before `pwl` that is neither `dc` nor directly behind one, and is no voltage.
@@ -293,20 +254,17 @@ pub fn source_points(alloc: Global, words: &mut Words<'_>) -> Result<Points, Dec
 
 /// The card `vNAME NODE NODE` and the words of its voltage.
 #[tactic(auto, unfolding(crate::specs::Elements::source))]
-pub fn source(alloc: Global, words: &mut Words<'_>) -> Result<ElementCard, DeckWhy>
+pub fn source(alloc: Global, words: &mut Words<'_>) -> Result<Element, DeckWhy>
     ensures { Gives result (source words.old) }
 {
     let name = words.next().ok_or(DeckWhy::WrongWords)?;
     let plus = words.next().ok_or(DeckWhy::WrongWords)?;
     let minus = words.next().ok_or(DeckWhy::WrongWords)?;
     let points = source_points(alloc, words)?;
-    Ok(ElementCard {
-        element: Element::Source {
-            name: name.to_name(alloc)?,
-            plus: node_of(alloc, &plus)?,
-            minus: node_of(alloc, &minus)?,
-            wave: points.wave(alloc)?,
-        },
-        limit: points.limit(),
+    Ok(Element::Source {
+        name: name.to_name(alloc)?,
+        plus: node_of(alloc, &plus)?,
+        minus: node_of(alloc, &minus)?,
+        wave: points.wave(alloc)?,
     })
 }

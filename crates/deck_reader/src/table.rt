@@ -1,17 +1,17 @@
 //! The `.table` card: the thresholds of gate and drain, and the currents.
 
 ghost use Rattle.std.specs.Prelude.{◌≡◌, true, None};
-ghost use Rattle.std.specs.List.{list_all};
-ghost use Rattle.semantics.specs.Valid.{rising, small_volts, small_amps, is_grid};
+ghost use Rattle.semantics.specs.Valid.{rising, is_grid};
 ghost use Rattle.semantics.specs.Part as part;
+ghost use Rattle.deck_cards.specs.Causes.{part_limit};
 ghost use Rattle.deck_cards.specs.Part.{part_of};
 ghost use Rattle.deck_reader.specs.Numbers.{Gives};
-ghost use Rattle.deck_reader.specs.Tables.{lists_of, table_of, table_fault, table_limit};
+ghost use Rattle.deck_reader.specs.Tables.{lists_of, table_of, table_fault};
 
 use crate::number::numbers;
 use crate::why::DeckWhy;
 use crate::words::Words;
-use deck_cards::{Part, Which};
+use deck_cards::{Part, Which, limits};
 use device_tables::{Grid, Table};
 use spice_num::Unit;
 use std::alloc::Global;
@@ -48,13 +48,14 @@ impl Model for Listed {
 
 impl Listed {
     /// What the first threshold or current that is outside its limit is of.
+    #[tactic(auto, unfolding(deck_cards::specs::Causes::part_limit))]
     pub fn limit(&self) -> Option<Which>
-        ensures { result ≡ table_limit self.now }
+        ensures { result ≡ part_limit (part.Listed self.now.gate self.now.drain self.now.amps) }
     {
-        if !are_small_volts(&self.gate) || !are_small_volts(&self.drain) {
+        if !limits::are_small_volts(&self.gate) || !limits::are_small_volts(&self.drain) {
             return Some(Which::Volts);
         }
-        if !are_small_amps(&self.amps) {
+        if !limits::are_some_amps(&self.amps) {
             return Some(Which::Amps);
         }
         None
@@ -62,7 +63,7 @@ impl Listed {
 
     /// The part of these thresholds and currents, of which none is outside its limit.
     pub fn into_part(self) -> Part
-        requires { table_limit self ≡ None }
+        requires { part_limit (part.Listed self.gate self.drain self.amps) ≡ None }
         ensures { part_of result ≡ part.Listed self.gate self.drain self.amps }
     {
         let Listed { gate, drain, amps } = self;
@@ -82,24 +83,6 @@ fn grid_of(thresholds: Vec<i64>) -> Grid
         Ok(grid) => grid,
         Err(_) => unreachable!(),
     }
-}
-
-/// At most 1,000 V in size, each.
-fn are_small_volts(thresholds: &[i64]) -> bool
-    ensures { result ≡ list_all small_volts thresholds.now }
-{
-    thresholds
-        .iter()
-        .all(|volts| volts.unsigned_abs() <= 1_000_000_000)
-}
-
-/// At most 1 A in size, each.
-fn are_small_amps(currents: &[i64]) -> bool
-    ensures { result ≡ list_all small_amps currents.now }
-{
-    currents
-        .iter()
-        .all(|amps| amps.unsigned_abs() <= 1_000_000_000_000)
 }
 
 /// The words of the three lists: those behind `gate`, behind the first `drain` after it, and behind

@@ -5,12 +5,11 @@ ghost use Rattle.deck_cards.specs.Part.{part_of};
 ghost use Rattle.deck_reader.specs.Numbers.{Gives};
 ghost use Rattle.deck_reader.specs.Told.{with_table};
 
-use crate::index::note_name;
 use crate::table::table_of;
 use crate::why::DeckWhy;
 use crate::words::Words;
 use deck_cards::Part;
-use indexmap::IndexSet;
+use indexmap::IndexMap;
 use semantics::Name;
 use std::alloc::{AllocError, Global};
 use std::marker::Model;
@@ -18,20 +17,17 @@ use std::marker::Model;
 /// The tables that the cards of a deck have said so far, each with its name.
 #[derive(Drop)]
 pub struct Tables {
-    parts: Vec<(Name, Part)>,
-    names: IndexSet<Name>,
+    parts: IndexMap<Name, Part>,
 }
 
 impl Model for Tables {
-    ghost use Rattle.std.specs.Prelude.{◌≡◌, ℕ, List, map};
+    ghost use Rattle.std.specs.Prelude.{ℕ, List, map};
     ghost use Rattle.semantics.specs.Part as part;
     ghost use Rattle.deck_cards.specs.Part.{part_of};
 
     ghost Value = { List (List ℕ × part.Part) };
 
-    ghost view = { λ t. map (λ p. (p.0, part_of p.1)) t.parts.items };
-
-    ghost invariant = { λ t. t.names.keys ≡ map (λ p. p.0) t.parts.items };
+    ghost view = { λ t. map (λ p. (p.0, part_of p.1)) t.parts.entries };
 }
 
 impl Tables {
@@ -40,8 +36,7 @@ impl Tables {
         ensures { result ≡ [] }
     {
         Tables {
-            parts: Vec::new(alloc),
-            names: IndexSet::new(alloc),
+            parts: IndexMap::new(alloc),
         }
     }
 
@@ -49,7 +44,7 @@ impl Tables {
     pub fn has(&self, name: &Name) -> bool
         ensures { result ≡ is_some (look_up name.now self.now) }
     {
-        self.names.contains(name)
+        self.parts.contains_key(name)
     }
 
     /// These tables and one more, whose name is new.
@@ -57,13 +52,9 @@ impl Tables {
         requires { is_some (look_up name self) ≡ false }
         ensures { IfOk result (λ tables. tables ≡ self ++ (name, part_of part) ∷ []) }
     {
-        let Tables {
-            mut parts,
-            mut names,
-        } = self;
-        note_name(&mut names, &name)?;
-        parts.push((name, part))?;
-        Ok(Tables { parts, names })
+        let Tables { mut parts } = self;
+        parts.insert(name, part)?;
+        Ok(Tables { parts })
     }
 
     /// These tables and that of the words behind `.table`.
@@ -84,10 +75,9 @@ impl Tables {
     }
 
     /// The tables, each with its name.
-    pub fn into_parts(self) -> Vec<(Name, Part)>
-        ensures { map (λ p. (p.0, part_of p.1)) result.items ≡ self }
+    pub fn into_parts(self, alloc: Global) -> Result<Vec<(Name, Part)>, AllocError>
+        ensures { IfOk result (λ parts. map (λ p. (p.0, part_of p.1)) parts.items ≡ self) }
     {
-        let Tables { parts, .. } = self;
-        parts
+        self.parts.into_iter().collect(alloc)
     }
 }

@@ -2,18 +2,17 @@
 
 ghost use Rattle.std.specs.Prelude.{◌≡◌, None};
 ghost use Rattle.deck_reader.specs.Numbers.{Gives};
-ghost use Rattle.deck_reader.specs.Told.{nothing, is_grain, grain_after, with_options, span_after, with_tran, is_output, is_options, with_words};
+ghost use Rattle.deck_reader.specs.Told.{nothing, is_grain, grain_after, with_options, is_stop, span_after, with_tran, is_output, is_options, tables_told, initial_told, grain_told, span_told, circuit_told, with_words};
 
 use crate::circuit::Circuit;
 use crate::element::element;
 use crate::initial::Voltages;
 use crate::options::options;
-use crate::source::is_time;
 use crate::tables::Tables;
 use crate::tran::{Span, tran};
 use crate::why::DeckWhy;
 use crate::words::{Word, Words};
-use deck_cards::Which;
+use deck_cards::{Which, limits};
 use deck_lexer::CardLine;
 use std::alloc::Global;
 
@@ -36,7 +35,14 @@ pub struct Told {
 fn is_grain(volts: &i64) -> bool
     ensures { result ≡ is_grain volts.now }
 {
-    2 <= *volts && *volts <= 1_000_000 && *volts % 2 == 0
+    0 <= *volts && limits::is_some_grain(volts.unsigned_abs())
+}
+
+/// Whether this is a stop tick of a deck: not below 0, and at most 10 ms.
+fn is_stop(tick: &i64) -> bool
+    ensures { result ≡ is_stop tick.now }
+{
+    0 <= *tick && limits::is_short(tick.unsigned_abs())
 }
 
 /// The grain after a card that says this one, or none.
@@ -83,7 +89,7 @@ fn span_after(
     if before.is_some() {
         return Err(DeckWhy::SecondTran);
     }
-    if !is_time(&span.stop) {
+    if !is_stop(&span.stop) {
         return Err(DeckWhy::Limit(Which::Seconds, word.to_name(alloc)?));
     }
     Ok(Some((span.stop.unsigned_abs(), span.uic)))
@@ -131,6 +137,57 @@ impl Told {
         }
     }
 
+    /// What the words behind `.table` make of it.
+    fn with_table(self, alloc: Global, words: &mut Words<'_>) -> Result<Told, DeckWhy>
+        ensures { Gives result (tables_told self words.old) }
+    {
+        let tables = self.tables.with_table(alloc, words)?;
+        Ok(Told { tables, ..self })
+    }
+
+    /// What the words behind `.ic` make of it.
+    fn with_initial(self, alloc: Global, words: &mut Words<'_>) -> Result<Told, DeckWhy>
+        ensures { Gives result (initial_told self words.old) }
+    {
+        let initial = self.initial.with_initial(alloc, words)?;
+        Ok(Told { initial, ..self })
+    }
+
+    /// What the words behind `.options` make of it.
+    fn with_options(
+        self,
+        alloc: Global,
+        word: &Word<'_>,
+        words: &mut Words<'_>,
+    ) -> Result<Told, DeckWhy>
+        ensures { Gives result (grain_told self word.now words.old) }
+    {
+        let grain = with_options(alloc, self.grain, word, words)?;
+        Ok(Told { grain, ..self })
+    }
+
+    /// What the words behind `.tran` make of it.
+    fn with_tran(
+        self,
+        alloc: Global,
+        word: &Word<'_>,
+        words: &mut Words<'_>,
+    ) -> Result<Told, DeckWhy>
+        ensures { Gives result (span_told self word.now words.old) }
+    {
+        let span = with_tran(alloc, &self.span, word, words)?;
+        Ok(Told { span, ..self })
+    }
+
+    /// What the card of an element at this line makes of it.
+    fn with_element(self, alloc: Global, line: u32, words: &mut Words<'_>) -> Result<Told, DeckWhy>
+        ensures { Gives result (circuit_told self line words.old) }
+    {
+        let element = element(alloc, words)?;
+        let circuit = self.circuit.with_element(line, element)?;
+        Ok(Told { circuit, ..self })
+    }
+
     /// What one more card makes of it.
     #[tactic(auto, unfolding(crate::specs::Told::with_words))]
     pub fn with_card(self, alloc: Global, card: &CardLine) -> Result<Told, DeckWhy>
@@ -139,26 +196,20 @@ impl Told {
         let mut words = Words::of(card, 0);
         let word = words.next().ok_or(DeckWhy::WrongWords)?;
         if word.is(".table") {
-            let tables = self.tables.with_table(alloc, &mut words)?;
-            return Ok(Told { tables, ..self });
+            return self.with_table(alloc, &mut words);
         }
         if word.is(".ic") {
-            let initial = self.initial.with_initial(alloc, &mut words)?;
-            return Ok(Told { initial, ..self });
+            return self.with_initial(alloc, &mut words);
         }
         if is_options(&word) {
-            let grain = with_options(alloc, self.grain, &word, &mut words)?;
-            return Ok(Told { grain, ..self });
+            return self.with_options(alloc, &word, &mut words);
         }
         if word.is(".tran") {
-            let span = with_tran(alloc, &self.span, &word, &mut words)?;
-            return Ok(Told { span, ..self });
+            return self.with_tran(alloc, &word, &mut words);
         }
         if is_output(&word) {
             return Ok(self);
         }
-        let element = element(alloc, &mut Words::of(card, 0))?;
-        let circuit = self.circuit.with_element(card.line(), element)?;
-        Ok(Told { circuit, ..self })
+        self.with_element(alloc, card.line(), &mut Words::of(card, 0))
     }
 }

@@ -4,12 +4,13 @@ ghost use Rattle.std.specs.Prelude.{◌≡◌, IfOk};
 ghost use Rattle.semantics.specs.Deck.{first_some};
 ghost use Rattle.deck_cards.specs.Causes.{deck_cause};
 ghost use Rattle.deck_cards.specs.Settled.{settled};
-ghost use Rattle.deck_reader.specs.Reading.{Reads, missing_part, no_such_model, told_deck, deck_of, node_cause, sound, whole};
+ghost use Rattle.deck_reader.specs.Reading.{Reads, missing_part, no_such_model, told_deck, node_cause, sound, whole};
 ghost use Rattle.deck_reader.specs.Circuit.{line_of};
 ghost use Rattle.deck_reader.specs.Indexed.{node_lines, noted_line};
 ghost use Rattle.deck_reader.specs.Sound.{IsSound, Tells};
 
 use crate::index::line_of;
+use crate::placed::Placed;
 use crate::tables::Tables;
 use crate::told::Told;
 use crate::why::{DeckRefusal, DeckWhy};
@@ -43,14 +44,12 @@ fn missing_part(
 }
 
 /// The first of these elements that is a device whose part is not defined.
-fn first_missing(
-    placed: &[(u32, Element)],
-    tables: &Tables,
-) -> Result<Option<DeckRefusal>, AllocError>
+fn first_missing(placed: &Placed, tables: &Tables) -> Result<Option<DeckRefusal>, AllocError>
     ensures { IfOk result (λ found. found ≡ first_some (missing_part tables.now) placed.now) }
 {
-    for (line, element) in placed {
-        if let Some(refusal) = missing_part(tables, *line, element)? {
+    for place in 0..placed.len() {
+        let (line, element) = placed.at(place);
+        if let Some(refusal) = missing_part(tables, line, element)? {
             return Ok(Some(refusal));
         }
     }
@@ -103,6 +102,7 @@ fn no_such_model(told: &Told) -> Result<Option<DeckRefusal>, AllocError>
 }
 
 /// What a deck is made of, and its nodes with their lines.
+#[tactic(auto, unfolding(crate::specs::Reading::told_deck))]
 fn take_apart(
     alloc: Global,
     title: Title,
@@ -112,29 +112,29 @@ fn take_apart(
     ensures deck { IfOk result (λ taken. taken.0 ≡ told_deck title told span) }
     ensures lines { IfOk result (λ taken. taken.1.entries ≡ node_lines told.circuit) }
 {
-    let (elements, lines) = told.circuit.into_parts(alloc)?;
+    let (elements, lines) = told.circuit.into_parts();
     let parts = DeckParts {
         title,
         stop: span.0,
         uic: span.1,
         grain: told.grain,
-        parts: told.tables.into_parts(),
-        initial: told.initial.into_pairs(),
+        parts: told.tables.into_parts(alloc)?,
+        initial: told.initial.into_pairs(alloc)?,
         elements,
     };
     Ok((parts, lines))
 }
 
 /// The deck that is told, of which no part is missing, or the first fault of its nodes.
-#[tactic(auto, unfolding(crate::specs::Reading::deck_of))]
 fn with_nodes(
     alloc: Global,
     title: Title,
     span: (u64, bool),
     told: Told,
 ) -> Result<Deck, DeckRefusal>
-    requires { deck_cause (deck_of title told span) ≡ node_cause (deck_of title told span) }
-    ensures { Reads result (sound (line_of told.circuit) (deck_of title told span)) }
+    requires once { settled (told_deck title told span) ≡ told_deck title told span }
+    requires nodes_alone { deck_cause (told_deck title told span) ≡ node_cause (told_deck title told span) }
+    ensures { Reads result (sound (line_of told.circuit) (told_deck title told span)) }
 {
     let (parts, lines) = take_apart(alloc, title, span, told)?;
     sound(alloc, parts, &lines)

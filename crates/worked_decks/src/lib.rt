@@ -1,7 +1,13 @@
-//! Tests of the reader of decks, on texts that were worked out apart from it.
+//! Tests of decks: texts that are read, parts that decks are made from, and runs.
 //!
 //! They stand in a crate of their own, since the functions of a crate with tests are proved twice.
 #![tactic(auto)]
 
+#[cfg(test)]
+mod cards;
+#[cfg(test)]
+mod elements;
+#[cfg(test)]
+mod runs;
 #[cfg(test)]
 mod texts;

@@ -1,5 +1,5 @@
 use Rattle.std.proofs.Common.{◌∙◌, ap, is_some}
-use Rattle.deck_reader.proofs.IndexLemmas.{look_up_is}
+use Rattle.deck_cards.proofs.Once.{look_up_is}
 use Rattle.deck_reader.proofs.index.is_noted.Goals as goal
 
 pub returns : goal.returns

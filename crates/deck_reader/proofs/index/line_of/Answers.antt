@@ -1,5 +1,5 @@
 use Rattle.std.proofs.Common.{◌∙◌, ap, unwrap_or}
-use Rattle.deck_reader.proofs.IndexLemmas.{look_up_is}
+use Rattle.deck_cards.proofs.Once.{look_up_is}
 use Rattle.deck_reader.proofs.index.line_of.Goals as goal
 
 pub returns-in-None : goal.returns-in-None

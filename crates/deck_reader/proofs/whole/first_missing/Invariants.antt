@@ -3,5 +3,5 @@ use Rattle.semantics.specs.Deck.{first_some}
 use Rattle.deck_reader.specs.Reading.{missing_part}
 use Rattle.deck_reader.proofs.whole.first_missing.Given as goal
 
-abbrev pub invariant-loop-line : goal.invariant-loop-line
-invariant-loop-line l = first_some (missing_part l.tables) l.placed ≡ first_some (missing_part l.tables) (drop l.line-index l.placed)
+abbrev pub invariant-loop-place : goal.invariant-loop-place
+invariant-loop-place l = first_some (missing_part l.tables) l.placed ≡ first_some (missing_part l.tables) (drop l.place l.placed)

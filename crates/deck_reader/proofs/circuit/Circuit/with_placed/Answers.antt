@@ -11,14 +11,14 @@ pub note_name-requires : goal.note_name-requires
 note_name-requires c =
     let inside = c.self.inside in
     ap (λ n. list_any (bytes_eq n) inside.names.keys) c.name_of.ensures
-    ∙ named_by inside.placed.items c.args.self inside.names.keys (name_of c.args.element) c.self.invariant.named c.self.view_is
+    ∙ named_by inside.placed c.args.self inside.names.keys (name_of c.args.element) c.self.invariant.named c.self.view_is
     ∙ c.requires.named
 
 pub returns-then-is_over : goal.returns-then-is_over
 returns-then-is_over c =
     let inside = c.self.inside in
     inr (
-    with_placed-at inside.placed.items c.args.self c.args.line c.args.element c.note_ends.new.nodes.entries inside.nodes.entries c.is_over.result
+    with_placed-at inside.placed c.args.self c.args.line c.args.element c.note_ends.new.nodes.entries inside.nodes.entries c.is_over.result
     c.self.view_is c.self.invariant.nodes c.in_ok-note_ends.ensures c.is_over.ensures
     ∙ ap (λ b. if b then Err (Limit Nodes (name_of c.args.element)) else Ok (c.args.self ++ (c.args.line, c.args.element) ∷ [])) c.if-is_over.true
     ∙ ap (λ n. Err (Limit Nodes n)) (sym (c.in_ok-copy.ensures ∙ c.name_of-then-is_over.ensures)))
@@ -26,13 +26,13 @@ returns-then-is_over c =
 pub invariant_of-result : goal.invariant_of-result
 invariant_of-result c =
     let inside = c.self.inside in
-    indexed _ _ _ _ _ _ _ _ (indexed_more inside.placed.items c.args.line c.args.element inside.names.keys inside.driven.keys inside.nodes.entries c.self.invariant)
-    c.in_ok-put.ensures (c.in_ok-note_name.ensures ∙ ap (λ n. inside.names.keys ++ n ∷ []) c.name_of.ensures) c.in_ok-note_driven.ensures c.in_ok-note_ends.ensures
+    indexed _ _ _ _ _ _ _ _ (indexed_more inside.placed c.args.line c.args.element inside.names.keys inside.driven.keys inside.nodes.entries c.self.invariant)
+    c.in_ok-with.ensures (c.in_ok-note_name.ensures ∙ ap (λ n. inside.names.keys ++ n ∷ []) c.name_of.ensures) c.in_ok-note_driven.ensures c.in_ok-note_ends.ensures
 
 pub returns : goal.returns
 returns c =
     let inside = c.self.inside in
-    with_placed-at inside.placed.items c.args.self c.args.line c.args.element c.note_ends.new.nodes.entries inside.nodes.entries c.is_over.result
+    with_placed-at inside.placed c.args.self c.args.line c.args.element c.note_ends.new.nodes.entries inside.nodes.entries c.is_over.result
     c.self.view_is c.self.invariant.nodes c.in_ok-note_ends.ensures c.is_over.ensures
     ∙ ap (λ b. if b then Err (Limit Nodes (name_of c.args.element)) else Ok (c.args.self ++ (c.args.line, c.args.element) ∷ [])) c.if-is_over.false
-    ∙ ap Ok (ap (λ l. l ++ (c.args.line, c.args.element) ∷ []) (sym c.self.view_is) ∙ sym c.in_ok-put.ensures)
+    ∙ ap Ok (ap (λ l. l ++ (c.args.line, c.args.element) ∷ []) (sym c.self.view_is) ∙ sym c.in_ok-with.ensures)

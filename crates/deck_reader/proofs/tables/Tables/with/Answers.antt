@@ -1,15 +1,17 @@
-use Rattle.std.proofs.Common.{◌∙◌, ap, is_some}
-use Rattle.std.specs.List.{list_any}
-use Rattle.std.specs.Str.{bytes_eq}
+use Rattle.std.proofs.Common.{◌≡◌, ◌∙◌, ◌++◌, ◌∷◌, [], false, map, is_some, sym, ap}
+use Rattle.std.proofs.lemmas.List.{map-append}
 use Rattle.semantics.specs.Deck.{look_up}
 use Rattle.deck_cards.specs.Part.{part_of}
-use Rattle.deck_reader.proofs.IndexLemmas.{look_up-map}
+use Rattle.deck_cards.proofs.Once.{look_up_is, found_is}
+use Rattle.deck_reader.proofs.IndexLemmas.{insert_new}
 use Rattle.deck_reader.proofs.tables.Tables.with.Goals as goal
 
-pub note_name-requires : goal.note_name-requires
-note_name-requires c =
+pub returns : goal.returns
+returns c =
+    let parts = c.self.inside.parts.entries in
     let name = c.args.name in
-    ap (list_any (bytes_eq name)) c.self.invariant
-    ∙ look_up-map part_of name c.self.inside.parts.items
-    ∙ ap (λ tables. is_some (look_up name tables)) c.self.view_is
-    ∙ c.requires
+    let new : is_some (look_up name parts) ≡ false =
+    ap is_some (sym (look_up_is name parts)) ∙ found_is part_of name parts ∙ ap (λ tables. is_some (look_up name tables)) c.self.view_is ∙ c.requires in
+    ap (map (λ p. (p.0, part_of p.1))) (c.in_ok-insert.ensures.entries ∙ insert_new parts name c.args.part new)
+    ∙ map-append (λ p. (p.0, part_of p.1)) parts ((name, c.args.part) ∷ [])
+    ∙ ap (λ tables. tables ++ (name, part_of c.args.part) ∷ []) c.self.view_is

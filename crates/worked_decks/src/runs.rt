@@ -1,81 +1,17 @@
+//! Plain runs of decks that are made from parts: their waves and events.
+
 ghost use Rattle.std.specs.Prelude.{◌≤◌, length, IfOk};
 
 mod cases;
 
-use crate::{Event, Line, Waves, tick_run};
+use crate::elements::{capacitor, mos, name, resistor, source};
 use cases::{Card, Case, Entry};
-use deck_cards::{Deck, DeckParts, Element, Name, Part, Title, Wave};
+use circuit_model::{Event, Line, Waves, tick_run};
+use deck_cards::{Deck, DeckParts, Part};
 use device_tables::{Grid, Table};
+use semantics::{Element, Title};
 use std::alloc::{AllocError, Global};
 use std::test::Fail;
-
-/// The name of a text.
-fn name(alloc: Global, text: &str) -> Result<Name, AllocError> {
-    if text.is_ascii() {
-        Name::of(alloc, text.as_bytes())
-    } else {
-        Name::of(alloc, b"not_ascii")
-    }
-}
-
-fn source(
-    alloc: Global,
-    label: &str,
-    plus: &str,
-    minus: &str,
-    points: &[(u64, i64)],
-) -> Result<Element, Fail> {
-    Ok(Element::Source {
-        name: name(alloc, label)?,
-        plus: name(alloc, plus)?,
-        minus: name(alloc, minus)?,
-        wave: Wave::pwl(points.to_vec(alloc)?)?,
-    })
-}
-
-fn mos(alloc: Global, label: &str, ends: [&str; 4], part: &str) -> Result<Element, AllocError> {
-    let [drain, gate, source, bulk] = ends;
-    Ok(Element::Mos {
-        name: name(alloc, label)?,
-        drain: name(alloc, drain)?,
-        gate: name(alloc, gate)?,
-        source: name(alloc, source)?,
-        bulk: name(alloc, bulk)?,
-        part: name(alloc, part)?,
-        length: 1,
-        width: 1,
-    })
-}
-
-fn resistor(
-    alloc: Global,
-    label: &str,
-    first: &str,
-    second: &str,
-    ohms: i64,
-) -> Result<Element, AllocError> {
-    Ok(Element::Resistor {
-        name: name(alloc, label)?,
-        first: name(alloc, first)?,
-        second: name(alloc, second)?,
-        ohms,
-    })
-}
-
-fn capacitor(
-    alloc: Global,
-    label: &str,
-    plus: &str,
-    minus: &str,
-    farads: i64,
-) -> Result<Element, AllocError> {
-    Ok(Element::Capacitor {
-        name: name(alloc, label)?,
-        plus: name(alloc, plus)?,
-        minus: name(alloc, minus)?,
-        farads,
-    })
-}
 
 fn element(alloc: Global, card: &Card) -> Result<Element, Fail> {
     match card {
@@ -87,7 +23,7 @@ fn element(alloc: Global, card: &Card) -> Result<Element, Fail> {
         }
         Card::Source(label, plus, minus, points) => source(alloc, label, plus, minus, points),
         Card::Mos(label, drain, gate, source, bulk, part) => {
-            Ok(mos(alloc, label, [drain, gate, source, bulk], part)?)
+            Ok(mos(alloc, label, [*drain, *gate, *source, *bulk], part, (1, 1))?)
         }
     }
 }

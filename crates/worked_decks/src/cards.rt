@@ -1,6 +1,10 @@
-use crate::{Deck, DeckParts, Element, Name, Part, Title, Wave};
+//! Decks that are made from parts: what they hold, or the first cause why there is none.
+
+use crate::elements::{capacitor, mos, name, resistor, source};
 use Card::{Capacitor, Grain, Initial, Mos, Resistor, Source, Stop, Table as TableCard, Uic};
+use deck_cards::{Deck, DeckParts, Part};
 use device_tables::{Grid, Table};
+use semantics::{Element, Title};
 use std::alloc::{AllocError, Global};
 use std::fmt::Write;
 use std::test::Fail;
@@ -258,15 +262,6 @@ const NAMES: &[(&[Card], &str, &str)] = &[
 /// Cards, and what a deck of them says of itself and of its nodes.
 const SAID: &[(&[Card], &str)] = &[(SWITCH, "0 7 2 false 5;a 0 0 1 true;d 33 -6;g 4 7;")];
 
-/// A name; `?` stands for a text that is none.
-fn name(alloc: Global, text: &str) -> Result<Name, AllocError> {
-    if text.is_ascii() {
-        Name::of(alloc, text.as_bytes())
-    } else {
-        Name::of(alloc, b"?")
-    }
-}
-
 /// A table of one current in all cells.
 fn table(alloc: Global, amps: i64) -> Result<Table, Fail> {
     let gate = Grid::of_list(Vec::new(alloc))?;
@@ -277,34 +272,19 @@ fn table(alloc: Global, amps: i64) -> Result<Table, Fail> {
 /// The element of a card, where it is one.
 fn element(alloc: Global, card: &Card) -> Result<Option<Element>, Fail> {
     let element = match card {
-        Resistor(own, first, second, ohms) => Element::Resistor {
-            name: name(alloc, own)?,
-            first: name(alloc, first)?,
-            second: name(alloc, second)?,
-            ohms: *ohms,
-        },
-        Capacitor(own, plus, minus, farads) => Element::Capacitor {
-            name: name(alloc, own)?,
-            plus: name(alloc, plus)?,
-            minus: name(alloc, minus)?,
-            farads: *farads,
-        },
-        Source(own, plus, minus, tick, volts) => Element::Source {
-            name: name(alloc, own)?,
-            plus: name(alloc, plus)?,
-            minus: name(alloc, minus)?,
-            wave: Wave::pwl(vec![in alloc; (*tick, *volts)]?)?,
-        },
-        Mos(own, drain, gate, source, part, length, width) => Element::Mos {
-            name: name(alloc, own)?,
-            drain: name(alloc, drain)?,
-            gate: name(alloc, gate)?,
-            source: name(alloc, source)?,
-            bulk: name(alloc, "0")?,
-            part: name(alloc, part)?,
-            length: *length,
-            width: *width,
-        },
+        Resistor(own, first, second, ohms) => resistor(alloc, own, first, second, *ohms)?,
+        Capacitor(own, plus, minus, farads) => capacitor(alloc, own, plus, minus, *farads)?,
+        Source(own, plus, minus, tick, volts) => source(
+            alloc,
+            own,
+            plus,
+            minus,
+            &[(*tick, *volts)],
+        )?,
+        Mos(own, drain, gate, source, part, length, width) => {
+            let ends = [*drain, *gate, *source, "0"];
+            mos(alloc, own, ends, part, (*length, *width))?
+        }
         _ => return Ok(None),
     };
     Ok(Some(element))
@@ -369,12 +349,9 @@ fn with_resistors(alloc: Global, cards: &[Card], count: u32) -> Result<DeckParts
     let mut parts = parts(alloc, cards)?;
     for i in 0..count {
         let own = format!(in alloc; "x{i}")?;
-        parts.elements.push(Element::Resistor {
-            name: name(alloc, own.as_str())?,
-            first: name(alloc, "a")?,
-            second: name(alloc, "b")?,
-            ohms: 1,
-        })?;
+        parts
+            .elements
+            .push(resistor(alloc, own.as_str(), "a", "b", 1)?)?;
     }
     Ok(parts)
 }
