@@ -15,7 +15,7 @@ use Rattle.semantics.specs.Valid.{is_valid, has_limits, has_elements, has_nodes,
 use Rattle.semantics.proofs.Limits.{limits}
 use Rattle.deck_cards.specs.declared.edit_refusal.EditRefusal.TheVariants.{Uncapped, NoInitial, Limit}
 use Rattle.deck_cards.specs.declared.which.Which.TheVariants.{Volts, Seconds, Grain, Elements, NodeFarads, Terminals}
-use Rattle.deck_cards.specs.Causes.{limit, limited, adding_cause, uncapped, no_initial, value_limit, many_elements, many_nodes, node_farads, many_terminals, part_limit, element_limit, deck_cause}
+use Rattle.deck_cards.specs.Causes.{limit, limited, adding_cause, uncapped, no_initial, value_limit, many_elements, many_nodes, node_farads, many_terminals, part_limit, element_limit, whole_cause, deck_cause}
 use Rattle.deck_cards.proofs.Added.{can_add, added}
 use Rattle.deck_cards.proofs.Counting.{few_none, none_few}
 use Rattle.deck_cards.proofs.Firsts.{none-or, none_that, that_none, none_map}
@@ -34,7 +34,7 @@ pub record IsClear (d : DeckValue) : Type 0 where
   pub ends : many_terminals d ≡ None
 
 pub clear_none : (d : DeckValue) → IsClear d → deck_cause d ≡ None
-unfolding deck_cause
+unfolding deck_cause whole_cause
 clear_none d c = λ i. option_or (c.adding i) (option_or (c.capped i) (option_or (c.voltages i) (option_or (c.values i) (option_or (c.elements i) (option_or (c.nodes i) (option_or (c.farads i) (option_or (c.ends i) None)))))))
 
 -- ---- free nodes
@@ -191,5 +191,22 @@ clear_valid d clear parts_differ parts initial_differ elements =
     few_items xs h = elim (slice_get_cases xs 100000).1 [ inl w ↦ absurd (cc (w.2, h)) | inr p ↦ p.0 ]
 
 -- both ways at once: the cause is none exactly where the deck is valid
+none_clear : (d : DeckValue) → deck_cause d ≡ None → IsClear d
+unfolding deck_cause whole_cause
+none_clear d none =
+    let adding = none-or (adding_cause d [] d.elements) _ none in
+    let capped = none-or (uncapped d) _ adding.1 in
+    let voltages = none-or (no_initial d) _ capped.1 in
+    let values = none-or (value_limit d) _ voltages.1 in
+    let elements = none-or (many_elements d) _ values.1 in
+    let nodes = none-or (many_nodes d) _ elements.1 in
+    let farads = none-or (node_farads d) _ nodes.1 in
+    let ends = none-or (many_terminals d) None farads.1 in
+    record { adding = adding.0; capped = capped.0; voltages = voltages.0; values = values.0; elements = elements.0; nodes = nodes.0; farads = farads.0; ends = ends.0 }
+
+pub none_valid : (d : DeckValue) → deck_cause d ≡ None → differ (map (λ p. p.0) d.parts) ≡ true → list_all (λ p. is_part p.1) d.parts ≡ true → differ (map (λ p. p.0) d.initial) ≡ true
+    → list_all in_limits d.elements ≡ true → is_valid d ≡ true
+none_valid d none = clear_valid d (none_clear d none)
+
 pub valid_none : (d : DeckValue) → is_valid d ≡ true → deck_cause d ≡ None
 valid_none d valid = clear_none d (valid_clear d valid)

@@ -126,10 +126,10 @@ many_nodes d = many_nodes_from [] d.elements
 
 -- ---- the whole deck
 
-unfoldable pub deck_cause : DeckValue → Option EditRefusal
-deck_cause d = first_of (
-    adding_cause d [] d.elements
-    ∷ uncapped d
+-- what no element alone can tell
+unfoldable pub whole_cause : DeckValue → Option EditRefusal
+whole_cause d = first_of (
+    uncapped d
     ∷ no_initial d
     ∷ value_limit d
     ∷ many_elements d
@@ -137,3 +137,6 @@ deck_cause d = first_of (
     ∷ node_farads d
     ∷ many_terminals d
     ∷ [])
+
+unfoldable pub deck_cause : DeckValue → Option EditRefusal
+deck_cause d = option_or (adding_cause d [] d.elements) (whole_cause d)

@@ -1,10 +1,12 @@
-ghost use Rattle.std.specs.Prelude.{[], ◌≡◌, ◌<◌, ℕ, false, length, slice_get, unsigned_abs, None, Some, IfOk, IfSome, IfNone, IsTrue, option_map};
-ghost use Rattle.std.specs.List.{list_any};
+ghost use Rattle.std.specs.Prelude.{[], ◌≡◌, ◌<◌, ℕ, true, false, map, length, slice_get, unsigned_abs, None, Some, IfOk, OnOk, IfSome, IfNone, IsTrue, option_map};
+ghost use Rattle.std.specs.List.{list_all, list_any};
 ghost use Rattle.std.specs.Str.{bytes_eq};
 ghost use Rattle.semantics.specs.Deck.{nodes, name_of, driver, capacity, initial_of, look_up};
-ghost use Rattle.semantics.specs.Valid.{is_valid};
+ghost use Rattle.semantics.specs.Valid.{is_valid, is_part, in_limits};
 ghost use Rattle.deck_cards.specs.Answers.{Answers};
-ghost use Rattle.deck_cards.specs.Causes.{deck_cause};
+ghost use Rattle.deck_cards.specs.Cards.{deck_of};
+ghost use Rattle.deck_cards.specs.Causes.{whole_cause, deck_cause};
+ghost use Rattle.deck_cards.specs.Facts.{IsTable};
 ghost use Rattle.deck_cards.specs.Part.{part_of};
 ghost use Rattle.deck_cards.specs.Settled.{settled};
 
@@ -41,6 +43,36 @@ impl Model for Deck {
     ghost invariant = { λ d. IsIndex (deck_of d.cards) d.names.keys d.table.names.keys d.table.facts.items };
 }
 
+/// Refuses cards for the first cause that no element alone can tell.
+fn check_whole(alloc: Global, cards: &Settled, table: &NodeTable) -> Result<(), EditRefusal>
+    requires { IsTable (deck_of cards.now) table.now.names.keys table.now.facts.items }
+    ensures cause { Answers result (whole_cause (deck_of cards.now)) }
+    ensures parts { OnOk result (list_all (λ p. is_part (part_of p.1)) cards.now.parts.entries ≡ true) }
+    ensures elements { OnOk result (list_all in_limits cards.now.elements.items ≡ true) }
+{
+    table.check_capped()?;
+    table.check_initial(cards.uic)?;
+    values::check_values(alloc, cards)?;
+    counts::check_elements(cards)?;
+    counts::check_nodes(alloc, table.names.len(), cards)?;
+    table.check_farads()?;
+    table.check_terminals()
+}
+
+/// The names of the elements of these cards, and their nodes, where the cards make a valid deck.
+fn look_ups(alloc: Global, cards: &Settled) -> Result<(IndexSet<Name>, NodeTable), EditRefusal>
+    ensures cause { Answers result (deck_cause (deck_of cards.now)) }
+    ensures names { IfOk result (λ found. found.0.keys ≡ map name_of cards.now.elements.items) }
+    ensures table { IfOk result (λ found. IsTable (deck_of cards.now) found.1.names.keys found.1.facts.items) }
+    ensures parts { IfOk result (λ found. list_all (λ p. is_part (part_of p.1)) cards.now.parts.entries ≡ true) }
+    ensures elements { IfOk result (λ found. list_all in_limits cards.now.elements.items ≡ true) }
+{
+    let names = adding::add_each(alloc, cards)?;
+    let table = NodeTable::of(alloc, cards)?;
+    check_whole(alloc, cards, &table)?;
+    Ok((names, table))
+}
+
 impl Deck {
     /// The valid deck that these parts say. Of two parts or initial voltages of one name the last
     /// holds, at the place of the first.
@@ -58,15 +90,7 @@ impl Deck {
         ensures complete { IsTrue (is_valid (settled parts)) → Answers result None }
     {
         let cards = Settled::of(alloc, parts)?;
-        let names = adding::add_each(alloc, &cards)?;
-        let table = NodeTable::of(alloc, &cards)?;
-        table.check_capped()?;
-        table.check_initial(cards.uic)?;
-        values::check_values(alloc, &cards)?;
-        counts::check_elements(&cards)?;
-        counts::check_nodes(alloc, table.names.len(), &cards)?;
-        table.check_farads()?;
-        table.check_terminals()?;
+        let (names, table) = look_ups(alloc, &cards)?;
         Ok(Deck {
             cards,
             names,

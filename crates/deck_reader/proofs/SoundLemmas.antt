@@ -13,7 +13,7 @@ use Rattle.semantics.specs.Valid.{some_grain, short_time, small_volts, has_part}
 use Rattle.deck_lexer.specs.Cards.{Card}
 use Rattle.deck_cards.specs.declared.which.Which.TheVariants.{Elements, Seconds, Grain, Volts}
 use Rattle.deck_cards.specs.declared.edit_refusal.EditRefusal.TheVariants as edit
-use Rattle.deck_cards.specs.Causes.{limit, adding_cause, uncapped, no_initial, value_limit, many_elements, many_nodes, node_farads, many_terminals, deck_cause}
+use Rattle.deck_cards.specs.Causes.{limit, adding_cause, uncapped, no_initial, value_limit, many_elements, many_nodes, node_farads, many_terminals, whole_cause, deck_cause}
 use Rattle.deck_cards.specs.Settled.{settled}
 use Rattle.deck_cards.proofs.Added.{added}
 use Rattle.deck_cards.proofs.Counting.{few_none}
@@ -135,7 +135,7 @@ short_stop told span short is = subst IsShort is short
 
 nodes_alone : (told : Told) (title : List ℕ) (span : ℕ × Bool) → IsKept told → told.span ≡ Some span → no_such_model told ≡ None
     → deck_cause (told_deck title told span) ≡ node_cause (told_deck title told span)
-unfolding deck_cause node_cause told_deck value_limit many_elements many_nodes no_such_model nodes_of
+unfolding deck_cause whole_cause node_cause told_deck value_limit many_elements many_nodes no_such_model nodes_of
 nodes_alone told title span kept is none =
     let d : DeckValue = told_deck title told span in
     let es = elements_of told.circuit in

@@ -1,13 +1,15 @@
-ghost use Rattle.std.specs.Prelude.{◌≡◌, ◌++◌, ◌∷◌, [], nat_lt, length, true, false, None, IfOk, OnOk};
+ghost use Rattle.std.specs.Prelude.{◌≡◌, ◌⊎◌, [], nat_lt, length, true, false, None, IfOk};
 ghost use Rattle.std.specs.Option.{option_copied};
 ghost use Rattle.semantics.specs.Deck.{name_of};
 ghost use Rattle.semantics.specs.Valid as valid;
 ghost use Rattle.deck_cards.specs.Causes.{first_that, is_named, is_driven};
+ghost use Rattle.deck_cards.specs.declared.which.Which.TheVariants.{Nodes};
+ghost use Rattle.deck_reader.specs.declared.why.DeckWhy.TheVariants.{Limit, Memory};
 ghost use Rattle.deck_reader.specs.Numbers.{Gives};
 ghost use Rattle.deck_reader.specs.Circuit.{elements_of, element_fault, with_placed, with_element};
 ghost use Rattle.deck_reader.specs.Indexed.{node_lines};
 
-use crate::index::{driven_again, note_driven, note_ends, note_name};
+use crate::index::{driven_again, note_element};
 use crate::placed::Placed;
 use crate::why::DeckWhy;
 use deck_cards::{Which, element_limit, is_grounded, name_of};
@@ -48,6 +50,16 @@ fn is_over(nodes: &IndexMap<Name, u32>) -> bool
     ensures { result ≡ nat_lt 100000 (length nodes.now.entries) }
 {
     nodes.len() > MOST_THINGS
+}
+
+/// The refusal of an element that has one node too many.
+fn one_too_many(element: &Element) -> DeckWhy
+    ensures { (result ≡ Memory) ⊎ (result ≡ Limit Nodes (name_of element.now)) }
+{
+    match name_of(element).copy() {
+        Ok(name) => DeckWhy::Limit(Which::Nodes, name),
+        Err(_) => DeckWhy::Memory,
+    }
 }
 
 impl Circuit {
@@ -116,11 +128,9 @@ impl Circuit {
             mut driven,
             mut nodes,
         } = self;
-        note_name(&mut names, name_of(&element))?;
-        note_driven(&mut driven, &element)?;
-        note_ends(&mut nodes, &element, line)?;
+        note_element(&mut names, &mut driven, &mut nodes, &element, line)?;
         if is_over(&nodes) {
-            return Err(DeckWhy::Limit(Which::Nodes, name_of(&element).copy()?));
+            return Err(one_too_many(&element));
         }
         Ok(Circuit {
             placed: placed.with(line, element)?,

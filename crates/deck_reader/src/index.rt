@@ -10,6 +10,7 @@ ghost use Rattle.semantics.specs.Valid as valid;
 ghost use Rattle.deck_cards.specs.Causes.{first_that};
 ghost use Rattle.deck_reader.specs.Indexed.{with_line, noted_line};
 
+use deck_cards::name_of;
 use indexmap::{IndexMap, IndexSet};
 use semantics::{Element, Name};
 use std::alloc::AllocError;
@@ -40,7 +41,7 @@ pub fn note_name(names: &mut IndexSet<Name>, name: &Name) -> Result<(), AllocErr
 }
 
 /// Puts the node that an element drives last, where it drives one. It is not driven yet.
-pub fn note_driven(driven: &mut IndexSet<Name>, element: &Element) -> Result<(), AllocError>
+fn note_driven(driven: &mut IndexSet<Name>, element: &Element) -> Result<(), AllocError>
     requires grounded { valid.is_grounded element.now ≡ true }
     requires fresh { first_that (λ n. list_any (bytes_eq n) driven.old.keys) (valid.driven_of element.now) ≡ None }
     ensures { OnOk result (driven.new.keys ≡ driven.old.keys ++ valid.driven_of element.now) }
@@ -74,7 +75,7 @@ fn note_node(nodes: &mut IndexMap<Name, u32>, name: &Name, line: u32) -> Result<
 }
 
 /// Notes the line of each node at an end of an element that is new.
-pub fn note_ends(
+fn note_ends(
     nodes: &mut IndexMap<Name, u32>,
     element: &Element,
     line: u32,
@@ -105,6 +106,27 @@ pub fn note_ends(
             note_node(nodes, source, line)
         }
     }
+}
+
+/// Notes the name of an element, the node that it drives and the nodes at its ends. Its name is new,
+/// and it drives no driven node.
+pub fn note_element(
+    names: &mut IndexSet<Name>,
+    driven: &mut IndexSet<Name>,
+    nodes: &mut IndexMap<Name, u32>,
+    element: &Element,
+    line: u32,
+) -> Result<(), AllocError>
+    requires named { list_any (bytes_eq (deck.name_of element.now)) names.old.keys ≡ false }
+    requires grounded { valid.is_grounded element.now ≡ true }
+    requires fresh { first_that (λ n. list_any (bytes_eq n) driven.old.keys) (valid.driven_of element.now) ≡ None }
+    ensures names { OnOk result (names.new.keys ≡ names.old.keys ++ deck.name_of element.now ∷ []) }
+    ensures driven { OnOk result (driven.new.keys ≡ driven.old.keys ++ valid.driven_of element.now) }
+    ensures nodes { OnOk result (nodes.new.entries ≡ fold (with_line line) nodes.old.entries (deck.ends_of element.now)) }
+{
+    note_name(names, name_of(element))?;
+    note_driven(driven, element)?;
+    note_ends(nodes, element, line)
 }
 
 /// The line that is noted of a node, 0 where none is.
