@@ -21,13 +21,13 @@ impl Model for NodeWave {
 }
 
 impl NodeWave {
-    /// No lines.
-    pub(crate) fn new(alloc: Global) -> NodeWave
-        ensures { result ≡ [] }
+    /// No lines, and room for the one that every wave has.
+    pub(crate) fn new(alloc: Global) -> Result<NodeWave, AllocError>
+        ensures { IfOk result (λ wave. wave ≡ []) }
     {
-        NodeWave {
-            lines: Vec::new(alloc),
-        }
+        Ok(NodeWave {
+            lines: Vec::with_capacity(alloc, 1)?,
+        })
     }
 
     /// Its lines.
@@ -74,7 +74,7 @@ impl Waves {
     {
         let mut waves = Vec::with_capacity(alloc, count)?;
         for _ in 0..count {
-            waves.push(NodeWave::new(alloc))?;
+            waves.push(NodeWave::new(alloc)?)?;
         }
         Ok(Waves { waves })
     }

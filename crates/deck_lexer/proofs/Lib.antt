@@ -1,7 +1,7 @@
+pub mod WordLemmas
+pub mod SplitLemmas
+pub mod LineLemmas
 pub mod CardLemmas
 pub mod DraftLemmas
-pub mod LineLemmas
-pub mod ReachLemmas
 pub mod ReadLemmas
-pub mod SplitLemmas
-pub mod WordLemmas
+pub mod LeftLemmas

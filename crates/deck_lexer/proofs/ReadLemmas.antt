@@ -1,17 +1,16 @@
 -- What a line of each kind makes of the cards.
-use Rattle.std.proofs.Common.{◌≡◌, ℕ, ◌+◌, ◌-◌, ◌<◌, ◌≤◌, Bool, true, false, List, [], ◌∷◌, length, take, drop, refl, ap, ◌∙◌, sym, arith, slice_range, eqb, codes, bytes_eq, None, inl, inr, if◌then◌else◌}
+use Rattle.std.proofs.Common.{◌≡◌, ℕ, ◌<◌, Bool, true, false, List, [], ◌∷◌, length, refl, ap, ◌∙◌, arith, eqb, codes, bytes_eq, None, inl, inr, if◌then◌else◌}
 use Rattle.std.specs.List.{All, list_all}
-use Rattle.std.proofs.lemmas.List.{places, take-take, drop-take, drop-drop}
-use Rattle.std.proofs.lemmas.List.Elements.{All-cons, All-nil, All-drop}
+use Rattle.std.proofs.lemmas.List.Elements.{All-cons, All-nil}
 use Rattle.std.proofs.lemmas.Bool.{and_parts, eqb-true, cases_Bool, true≢false, false≢true}
-use Rattle.deck_lexer.specs.declared.draft.Step.{Step}
-use Rattle.deck_lexer.specs.declared.draft.Step.TheVariants.{Next, End, Fault}
+use Rattle.deck_lexer.specs.declared.pending.Step.{Step}
+use Rattle.deck_lexer.specs.declared.pending.Step.TheVariants.{Next, End, Fault}
 use Rattle.deck_lexer.specs.declared.fault.LexFault.TheVariants.{NotAscii}
 use Rattle.deck_lexer.specs.Words.{words_of, code_of}
 use Rattle.deck_lexer.specs.Cards.{Card, title, comment, continuation, end, new_card, begins_with, kind_by_words, kind_of, with_words, with_line_of, continued_words}
 use Rattle.deck_lexer.specs.Reading.{is_allowed, is_looked_at, is_end, fault_by_kind}
-use Rattle.deck_lexer.specs.Draft.{AddsCard, ContinuesCard, ReadsLine, with_card}
-use Rattle.deck_lexer.proofs.WordLemmas.{IsAsciiByte, All-code_of, length-code_of}
+use Rattle.deck_lexer.specs.Pending.{AddsCard, ContinuesCard, ReadsLine, with_card}
+use Rattle.deck_lexer.proofs.WordLemmas.{IsAsciiByte}
 
 kind_of-title : (number : ℕ) (line : List ℕ) → number ≡ 1 → kind_of (number, line) ≡ title
 unfolding kind_of
@@ -96,28 +95,6 @@ ReadsLine-words cards number line words h good p e End new r =
     rw (kind_of-words number line h.number_is h.begins p, ← e) (words_end cards number line words good r.0, r.0, r.1)
 ReadsLine-words cards number line words h good p e (Fault fault) new r = absurd r
 
--- the place where the code of a line ends, as `without_comment` gives it
-pub record IsCodeOf (code line : List ℕ) : Type 0 where
-  pub code_is : code ≡ code_of line
-  pub front : code ≡ take (length code) line
-
-pub code_range : (text : List ℕ) (start stop : ℕ) (code : List ℕ) → stop ≤ length text → start ≤ stop → IsCodeOf code (slice_range text start stop)
-    → slice_range text start (start + length code) ≡ code_of (slice_range text start stop)
-code_range text start stop code w o h =
-    let long : length (slice_range text start stop) ≡ stop - start = grind (arith, places) in
-    let few : length code ≤ stop - start = omega (arith, ap length h.code_is, length-code_of (slice_range text start stop)) in
-    let same : start + length code - start ≡ length code = omega arith in
-    rw same (sym (take-take (length code) (stop - start) (drop start text) few) ∙ sym h.front ∙ h.code_is)
-
-pub continued_range : (text : List ℕ) (start stop : ℕ) (code : List ℕ) → stop ≤ length text → start ≤ stop → IsCodeOf code (slice_range text start stop) → 0 < length code
-    → slice_range text (start + 1) (start + length code) ≡ drop 1 (code_of (slice_range text start stop))
-continued_range text start stop code w o h some =
-    let whole : start + length code - start ≡ 1 + (length code - 1) = omega arith in
-    let rest : start + length code - (start + 1) ≡ length code - 1 = omega arith in
-    rw rest
-    (ap (take (length code - 1)) (sym (drop-drop 1 start text)) ∙ sym (drop-take 1 (length code - 1) (drop start text))
-    ∙ ap (drop 1) (ap (λ n. take n (drop start text)) (sym whole) ∙ code_range text start stop code w o h))
-
 pub All-allowed : (line : List ℕ) → list_all is_allowed line ≡ true → All IsAsciiByte line
 All-allowed [] h = All-nil IsAsciiByte
 All-allowed (b ∷ bs) h =
@@ -129,13 +106,3 @@ pub length-code_of-plus : (line : List ℕ) → begins_with 43 line ≡ true →
 unfolding code_of
 length-code_of-plus [] h = absurd (cc)
 length-code_of-plus (b ∷ bs) h = rw (eqb-true b 43 h) (omega arith)
-
-pub All-code_range : (text : List ℕ) (start stop : ℕ) (code : List ℕ) → stop ≤ length text → start ≤ stop → IsCodeOf code (slice_range text start stop)
-    → list_all is_allowed (slice_range text start stop) ≡ true → All IsAsciiByte (slice_range text start (start + length code))
-All-code_range text start stop code w o h good =
-    rw (code_range text start stop code w o h) (All-code_of (slice_range text start stop) (All-allowed (slice_range text start stop) good))
-
-pub All-continued_range : (text : List ℕ) (start stop : ℕ) (code : List ℕ) → stop ≤ length text → start ≤ stop → IsCodeOf code (slice_range text start stop) → 0 < length code
-    → list_all is_allowed (slice_range text start stop) ≡ true → All IsAsciiByte (slice_range text (start + 1) (start + length code))
-All-continued_range text start stop code w o h some good =
-    rw (continued_range text start stop code w o h some) (All-drop IsAsciiByte 1 _ (All-code_of (slice_range text start stop) (All-allowed (slice_range text start stop) good)))

@@ -1,10 +1,11 @@
 -- The words of a text whose bytes are below 128.
-use Rattle.std.proofs.Common.{◌≡◌, ℕ, ◌<◌, ◌≤◌, Bool, true, false, not, List, [], ◌∷◌, length, get_or, drop, map, refl, arith}
+use Rattle.std.proofs.Common.{◌≡◌, ℕ, ◌<◌, ◌≤◌, Bool, true, false, not, List, [], ◌∷◌, length, get_or, drop, map, refl, ap, sym, arith, ◌+◌, ◌∙◌, ◌⊎◌, inl, inr}
 use Rattle.std.specs.List.{slice_split, onto_first, All, filter}
 use Rattle.std.specs.Char.{to_ascii_lowercase}
 use Rattle.std.proofs.lemmas.List.{take-map, drop-map}
 use Rattle.std.proofs.lemmas.List.Elements.{All-cons, All-nil, All-head, All-tail, All-map}
-use Rattle.std.proofs.lemmas.Bool.{cond_both}
+use Rattle.std.proofs.lemmas.Bool.{cond_both, cases_Bool, cases_lt}
+use Rattle.std.proofs.lemmas.List.Splits.{slice_split-cons_yes, slice_split-cons_no}
 use Rattle.deck_lexer.specs.declared.word.Word.{Word}
 use Rattle.deck_lexer.specs.Lines.{is_empty}
 use Rattle.deck_lexer.specs.Words.{is_separator, split_words, lowered, spelled, words_at, IsWord, code_of, before_comment, begins_comment, is_blank}
@@ -18,9 +19,54 @@ lower_byte-ascii b h = grind arith
 lower_byte-twice : (b : ℕ) → to_ascii_lowercase (to_ascii_lowercase b) ≡ to_ascii_lowercase b
 lower_byte-twice b = grind arith
 
-lowered-twice : (word : List ℕ) → lowered (lowered word) ≡ lowered word
+pub lowered-twice : (word : List ℕ) → lowered (lowered word) ≡ lowered word
 lowered-twice [] = refl
 lowered-twice (b ∷ bs) = rw (lower_byte-twice b, lowered-twice bs) refl
+
+-- ---- lowering moves no separator
+
+lower_byte-other : (b : ℕ) → (b < 65) ⊎ (90 < b) → to_ascii_lowercase b ≡ b
+lower_byte-other b h = grind arith
+
+separator-letter : (b : ℕ) → 65 ≤ b → b ≤ 122 → is_separator b ≡ false
+separator-letter b least most = grind arith
+
+separator-lowered : (b : ℕ) → is_separator (to_ascii_lowercase b) ≡ is_separator b
+separator-lowered b = elim (cases_lt b 65) [
+  | inl small ↦ ap is_separator (lower_byte-other b (inl small))
+  | inr least ↦ elim (cases_lt 90 b) [
+    | inl large ↦ ap is_separator (lower_byte-other b (inr large))
+    | inr most ↦
+        let lower : to_ascii_lowercase b ≡ b + 32 = grind arith in
+        rw lower (separator-letter (b + 32) (omega arith) (omega arith) ∙ sym (separator-letter b (omega arith) (omega arith)))
+  ]
+]
+
+onto_first-lowered : (b : ℕ) (pieces : List (List ℕ)) → onto_first (to_ascii_lowercase b) (map lowered pieces) ≡ map lowered (onto_first b pieces)
+onto_first-lowered b [] = refl
+onto_first-lowered b (piece ∷ pieces) = refl
+
+slice_split-lowered : (text : List ℕ) → slice_split is_separator (lowered text) ≡ map lowered (slice_split is_separator text)
+slice_split-lowered [] = refl
+slice_split-lowered (b ∷ bs) =
+    let more = slice_split-lowered bs in
+    elim (cases_Bool (is_separator b)) [
+      | inl e ↦
+          rw (slice_split-cons_yes is_separator b bs e, slice_split-cons_yes is_separator (to_ascii_lowercase b) (lowered bs) (separator-lowered b ∙ e), more) refl
+      | inr e ↦
+          rw (slice_split-cons_no is_separator b bs e, slice_split-cons_no is_separator (to_ascii_lowercase b) (lowered bs) (separator-lowered b ∙ e), more) (onto_first-lowered b (slice_split is_separator bs))
+    ]
+
+pieces-lowered : (pieces : List (List ℕ)) → map lowered (filter (λ piece. not (is_empty piece)) (map lowered pieces)) ≡ map lowered (filter (λ piece. not (is_empty piece)) pieces)
+pieces-lowered [] = refl
+pieces-lowered ([] ∷ pieces) = pieces-lowered pieces
+pieces-lowered ((b ∷ bs) ∷ pieces) = rw (lowered-twice (b ∷ bs), pieces-lowered pieces) refl
+
+pub split_words-lowered : (text : List ℕ) → split_words (lowered text) ≡ split_words text
+unfolding split_words
+split_words-lowered text = rw (slice_split-lowered text) (pieces-lowered (slice_split is_separator text))
+
+-- ---- words
 
 All-onto_first : (P : ℕ → Type 0) (b : ℕ) (pieces : List (List ℕ)) → P b → All (All P) pieces → All (All P) (onto_first b pieces)
 All-onto_first P b [] h each = All-cons (All P) (b ∷ []) [] (All-cons P b [] h (All-nil P)) (All-nil (All P))

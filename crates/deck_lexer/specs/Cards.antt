@@ -1,24 +1,13 @@
 -- What each line of a deck is, and the cards that the lines make.
-use Rattle.std.specs.Prelude.{ℕ, ◌+◌, ◌≤◌, All, length, map, take, Bool, false, ◌==◌, List, [], ◌∷◌, ◌++◌, if◌then◌else◌, drop, fold, codes, bytes_eq}
-use Rattle.deck_lexer.specs.declared.word.Word.{Word}
+use Rattle.std.specs.Prelude.{ℕ, Bool, false, ◌==◌, List, [], ◌∷◌, ◌++◌, if◌then◌else◌, drop, fold, codes, bytes_eq}
 use Rattle.deck_lexer.specs.Bytes.{asterisk, plus}
 use Rattle.deck_lexer.specs.Lines.{Line}
-use Rattle.deck_lexer.specs.Words.{words_of, split_words, code_of, spelled, EndsBy, IsWord}
+use Rattle.deck_lexer.specs.Words.{words_of, split_words, code_of}
 
 -- A card: the number of its line, and its words with those of the lines that continue it.
 pub record Card : Type 0 where
   pub line : ℕ
   pub words : List (List ℕ)
-
--- The card of this line whose words are a run of the spans in the text.
-abbrev pub card_at : List ℕ → List Word → ℕ → ℕ → ℕ → Card
-card_at text spans line first count = record { line = line; words = map (spelled text) (take count (drop first spans)) }
-
--- The spans of the run are there, and each of them is a word of a card.
-pub record IsCardAt (text : List ℕ) (found : List Word) (first count : ℕ) : Type 0 where
-  pub within : first + count ≤ length found
-  pub spans : All (EndsBy (length text)) found
-  pub words : All IsWord (map (spelled text) (take count (drop first found)))
 
 -- What a line of a deck is.
 pub data Kind : Type 0 where

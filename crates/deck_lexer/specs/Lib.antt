@@ -1,6 +1,9 @@
 pub mod Bytes
 pub mod Cards
 pub mod Draft
+pub mod Left
 pub mod Lines
+pub mod Pending
 pub mod Reading
+pub mod Scan
 pub mod Words

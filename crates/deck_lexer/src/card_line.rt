@@ -1,34 +1,28 @@
 //! A card of a deck, and the list of cards.
-ghost use Rattle.std.specs.Prelude.{◌≡◌, ◌+◌, ◌<◌, ◌≤◌, ◌^◌, Some, length, slice_get, All, IfOk};
+ghost use Rattle.std.specs.Prelude.{◌≡◌, ◌<◌, ◌^◌, Some, length, slice_get, All, IfOk};
 ghost use Rattle.deck_lexer.specs.Words.{words_of, lowered};
-ghost use Rattle.deck_lexer.specs.Cards.{card_at, IsCardAt};
+ghost use Rattle.deck_lexer.specs.Draft.{draft_card, IsDraft};
 
-use crate::page::{Page, Run};
-use crate::word::{spelled, words};
+use crate::draft::Draft;
+use crate::word::{spelled, without_comment};
 use std::alloc::{AllocError, Global};
 use std::marker::Model;
-use std::rc::Rc;
 
 /// A card: the number of its line, and its words in lower case.
 #[derive(Drop)]
 pub struct CardLine {
-    page: Rc<Page>,
-    line: u32,
-    // The place of its first word among the words of the page, and how many it has.
-    first: u32,
-    count: u32,
+    draft: Draft,
 }
 
 impl Model for CardLine {
-    ghost use Rattle.deck_lexer.specs.Cards.{Card, card_at, IsCardAt};
+    ghost use Rattle.deck_lexer.specs.Cards.{Card};
+    ghost use Rattle.deck_lexer.specs.Draft.{draft_card, IsDraft};
 
     ghost Value = { Card };
 
-    ghost view = { λ c.
-        card_at c.page.value.text.items c.page.value.words.items c.line c.first c.count };
+    ghost view = { λ c. draft_card c.draft };
 
-    ghost invariant = { λ c.
-        IsCardAt c.page.value.text.items c.page.value.words.items c.first c.count };
+    ghost invariant = { λ c. IsDraft c.draft };
 }
 
 impl CardLine {
@@ -41,43 +35,30 @@ impl CardLine {
         ensures line { IfOk result (λ card. card.line ≡ line) }
         ensures words { IfOk result (λ card. card.words ≡ words_of text.now) }
     {
-        let words = words(alloc, text)?;
-        let count = words.len() as u32;
-        let page = Page::of(alloc, text, words)?;
-        Ok(CardLine {
-            page,
-            line,
-            first: 0,
-            count,
-        })
+        let draft = Draft::of(alloc, line, without_comment(text))?;
+        Ok(CardLine { draft })
     }
 
-    // The card of a run of the words of a page.
-    pub(crate) fn in_page(page: Rc<Page>, run: Run) -> CardLine
-        requires { IsCardAt page.value.text.items page.value.words.items run.first run.count }
-        ensures { result
-            ≡ card_at page.value.text.items page.value.words.items run.line run.first run.count }
+    // The card of which this is all.
+    pub(crate) fn of_draft(draft: Draft) -> CardLine
+        requires { IsDraft draft }
+        ensures { result ≡ draft_card draft }
     {
-        CardLine {
-            page,
-            line: run.line,
-            first: run.first,
-            count: run.count,
-        }
+        CardLine { draft }
     }
 
     /// The number of its line, from 1 on: where its first word stands.
     pub fn line(&self) -> u32
         ensures { result ≡ self.now.line }
     {
-        self.line
+        self.draft.line
     }
 
     /// How many words it has.
     pub fn len(&self) -> usize
         ensures { result ≡ length self.now.words }
     {
-        self.count as usize
+        self.draft.words.len()
     }
 
     /// Its word at `i`, in lower case; it asks that there is one.
@@ -88,8 +69,7 @@ impl CardLine {
         ensures ascii { All (λ b. b < 128) result.now }
         ensures lower { lowered result.now ≡ result.now }
     {
-        let page: &Page = &self.page;
-        spelled(&page.text, page.words[self.first as usize + i])
+        spelled(&self.draft.text, self.draft.words[i])
     }
 }
 

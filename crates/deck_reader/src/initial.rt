@@ -1,6 +1,6 @@
 //! The `.ic` card: initial voltages.
 
-ghost use Rattle.std.specs.Prelude.{◌≡◌, [], true, IfOk, OnOk};
+ghost use Rattle.std.specs.Prelude.{◌≡◌, ◌&&◌, [], true, IfOk, OnOk};
 ghost use Rattle.std.specs.List.{list_any};
 ghost use Rattle.std.specs.Str.{bytes_eq};
 ghost use Rattle.deck_reader.specs.Numbers.{Gives, GivesItems};
@@ -95,13 +95,26 @@ fn put(voltages: &mut IndexMap<Name, i64>, node: Name, volts: i64) -> Result<(),
     Ok(())
 }
 
+impl Held {
+    /// Puts a voltage: it takes the place of that of the same node, or stands last.
+    fn put(&mut self, voltage: (Name, i64)) -> Result<(), AllocError>
+        ensures { OnOk result (self.new ≡ (put self.old.0 voltage, self.old.1 && small_volts voltage.1)) }
+    {
+        let (node, volts) = voltage;
+        self.are_small = self.are_small && is_small(&volts);
+        put(&mut self.voltages, node, volts)
+    }
+}
+
 /// The voltages that triples leave of those before them.
 #[tactic(auto, unfolding(crate::specs::Voltages::held, crate::specs::Dots::voltages_of))]
 fn hold(alloc: Global, before: IndexMap<Name, i64>, words: &mut Words<'_>) -> Result<Held, DeckWhy>
     ensures { Gives result (held before.entries true words.old) }
 {
-    let mut voltages = before;
-    let mut are_small = true;
+    let mut held = Held {
+        voltages: before,
+        are_small: true,
+    };
     while let Some(_) = words.next() {
         let Some(name) = words.next() else {
             break;
@@ -109,14 +122,9 @@ fn hold(alloc: Global, before: IndexMap<Name, i64>, words: &mut Words<'_>) -> Re
         let Some(value) = words.next() else {
             break;
         };
-        let (node, volts) = voltage(alloc, &name, &value)?;
-        are_small = are_small && is_small(&volts);
-        put(&mut voltages, node, volts)?;
+        held.put(voltage(alloc, &name, &value)?)?;
     }
-    Ok(Held {
-        voltages,
-        are_small,
-    })
+    Ok(held)
 }
 
 /// The initial voltages that the cards of a deck have said so far, each with its node.

@@ -9,7 +9,7 @@ use crate::told::Told;
 use crate::whole::whole;
 use crate::why::{DeckRefusal, DeckWhy};
 use deck_cards::Deck;
-use deck_lexer::{CardLine, LexFault, Lexed, cards};
+use deck_lexer::{CardLine, LexFault, Lexer, Next};
 use semantics::Title;
 use std::alloc::{AllocError, Global};
 
@@ -28,18 +28,6 @@ fn with_card(told: Told, alloc: Global, card: &CardLine) -> Result<Told, DeckRef
             why,
         }),
     }
-}
-
-/// What cards say, or the first fault of the first that has one.
-#[tactic(auto, unfolding(crate::specs::Reading::told_after))]
-fn told_of(alloc: Global, cards: &[CardLine]) -> Result<Told, DeckRefusal>
-    ensures { Reads result (told_after nothing cards.now) }
-{
-    let mut told = Told::new(alloc);
-    for card in cards {
-        told = with_card(told, alloc, card)?;
-    }
-    Ok(told)
 }
 
 /// The refusal of a fault of the lines.
@@ -86,18 +74,21 @@ fn first_line(alloc: Global, text: &[u8]) -> Result<Vec<u8>, AllocError>
 /// lines. Then come the faults of the whole deck: `NoTran` at the line that ends it, `NoSuchModel` at
 /// that of the device, and `Uncapped`, `NoInitial` and the `Limit` of a node's capacitance and of its
 /// terminals at that of the first card that has the node at an end. `Memory` has line 0.
-#[tactic(auto, unfolding(crate::specs::Reading::deck_in, crate::specs::Reading::deck_or))]
+#[tactic(auto, unfolding(crate::specs::Reading::deck_in, crate::specs::Reading::deck_or, crate::specs::Reading::told_after))]
 pub fn read(alloc: Global, text: &[u8]) -> Result<Deck, DeckRefusal>
     requires { length text.now < 2 ^ 32 }
     ensures { Reads result (deck_in text.now) }
 {
-    let Lexed { cards, fault, end } = cards(alloc, text)?;
-    let title = Title::of(first_line(alloc, text)?);
-    let told = told_of(alloc, cards.all())?;
-    // The deck is made without the words beside it.
-    drop(cards);
-    match fault {
-        Some(fault) => Err(lexer_refusal(fault)),
-        None => whole(alloc, title, end, told),
+    let mut lexer = Lexer::of(text);
+    let mut told = Told::new(alloc);
+    loop {
+        match lexer.next(alloc)? {
+            Next::Card(card) => told = with_card(told, alloc, &card)?,
+            Next::Over(Err(fault)) => return Err(lexer_refusal(fault)),
+            Next::Over(Ok(end)) => {
+                let title = Title::of(first_line(alloc, text)?);
+                return whole(alloc, title, end, told);
+            }
+        }
     }
 }

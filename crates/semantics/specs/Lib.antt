@@ -1,3 +1,4 @@
+pub mod Held
 pub mod Ground
 pub mod Grid
 pub mod Part

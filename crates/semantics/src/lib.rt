@@ -7,6 +7,7 @@ mod event;
 mod fraction;
 mod line;
 mod name;
+mod text;
 mod title;
 mod wave;
 

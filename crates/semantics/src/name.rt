@@ -8,6 +8,7 @@ ghost use Rattle.std.specs.Cmp.Rules.{hashing};
 ghost use Rattle.std.proofs.Common.{rules};
 ghost use Rattle.semantics.specs.Ground.{is_ground};
 
+use crate::text::Text;
 use std::alloc::{AllocError, Global};
 use std::hash::{Hash, Hasher};
 use std::marker::Model;
@@ -16,18 +17,18 @@ use std::{fmt, str};
 /// The name of a node, an element or a model, in lower case. A contract sees it as its bytes.
 #[derive(Drop)]
 pub struct Name {
-    text: String,
+    text: Text,
 }
 
 impl Model for Name {
-    ghost use Rattle.std.specs.Prelude.{◌≡◌, ℕ, List, map, string_bytes};
+    ghost use Rattle.std.specs.Prelude.{◌≡◌, ℕ, List, map};
     ghost use Rattle.std.specs.Char.{to_ascii_lowercase};
 
     ghost Value = { List ℕ };
 
-    ghost view = { λ n. string_bytes n.text };
+    ghost view = { λ n. n.text };
 
-    ghost invariant = { λ n. map to_ascii_lowercase (string_bytes n.text) ≡ string_bytes n.text };
+    ghost invariant = { λ n. map to_ascii_lowercase n.text ≡ n.text };
 }
 
 impl Name {
@@ -41,14 +42,16 @@ impl Name {
             Err(_) => unreachable!(),
         };
         lowered.make_ascii_lowercase();
-        Ok(Name { text: lowered })
+        Ok(Name {
+            text: Text::of(alloc, lowered.as_str())?,
+        })
     }
 
     /// Its bytes.
     pub fn bytes(&self) -> &[u8]
         ensures { result.now ≡ self.now }
     {
-        self.text.as_bytes()
+        self.text.as_str().as_bytes()
     }
 
     /// Its text.
@@ -63,7 +66,7 @@ impl Name {
         ensures { IfOk result (λ name. name ≡ self.now) }
     {
         Ok(Name {
-            text: self.text.clone()?,
+            text: self.text.copy()?,
         })
     }
 

@@ -1,15 +1,13 @@
-use Rattle.std.proofs.Common.{◌-◌, ◌≤◌, ◌+◌, length}
-use Rattle.deck_lexer.specs.Draft.{draft_cards, IsDraft, IsOpen}
-use Rattle.deck_lexer.proofs.ReachLemmas.{IsReached}
+use Rattle.std.proofs.Common.{◌≡◌, ◌++◌, length}
+use Rattle.deck_lexer.specs.Reading.{deck_cards, deck_end, deck_fault}
 use Rattle.deck_lexer.proofs.lexer.cards.Given as goal
 
-abbrev pub invariant-loop-start : goal.invariant-loop-start
-invariant-loop-start l = record {
-  reached : IsReached l.text (draft_cards l.text l.draft) l.start l.number;
-  draft : IsDraft l.text l.start l.draft;
-  ends : IsOpen l.draft;
-  within : l.start ≤ length l.text + 1;
+abbrev pub invariant-loop-cards : goal.invariant-loop-cards
+invariant-loop-cards l = record {
+  cards : l.cards.items ++ l.lexer.cards ≡ deck_cards l.text;
+  end : l.lexer.end ≡ deck_end l.text;
+  fault : l.lexer.fault ≡ deck_fault l.text;
 }
 
-abbrev pub decreases-loop-start : goal.decreases-loop-start
-decreases-loop-start l = length l.text - l.start
+abbrev pub decreases-loop-cards : goal.decreases-loop-cards
+decreases-loop-cards l = length l.lexer.cards

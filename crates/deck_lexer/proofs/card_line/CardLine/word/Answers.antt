@@ -1,12 +1,12 @@
-use Rattle.deck_lexer.proofs.CardLemmas.{IsWord-at}
+use Rattle.deck_lexer.proofs.CardLemmas.{IsWord-at, length-draft_words}
 use Rattle.deck_lexer.proofs.card_line.CardLine.word.Goals as goal
 
 pub returns-clause-ascii : goal.returns-clause-ascii
 returns-clause-ascii c =
-    let read = rw c.deref-page.ensures at c.index.ensures in
-    rw (c.spelled.ensures, c.deref.ensures.value, c.deref-page.ensures) (IsWord-at c.self.invariant c.self.inside.line _ _ (rw (← c.self.view_is) at c.requires) read).ascii
+    let inside = rw (← c.self.view_is, length-draft_words c.self.inside.draft) at c.requires in
+    rw (c.spelled.ensures, c.deref.ensures.value) (IsWord-at c.args.i c.index.result.now c.self.invariant inside c.index.ensures).ascii
 
 pub returns-clause-lower : goal.returns-clause-lower
 returns-clause-lower c =
-    let read = rw c.deref-page.ensures at c.index.ensures in
-    rw (c.spelled.ensures, c.deref.ensures.value, c.deref-page.ensures) (IsWord-at c.self.invariant c.self.inside.line _ _ (rw (← c.self.view_is) at c.requires) read).lower
+    let inside = rw (← c.self.view_is, length-draft_words c.self.inside.draft) at c.requires in
+    rw (c.spelled.ensures, c.deref.ensures.value) (IsWord-at c.args.i c.index.result.now c.self.invariant inside c.index.ensures).lower
