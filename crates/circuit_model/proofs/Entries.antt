@@ -43,10 +43,10 @@ added_or_not : (xs : List Line) (b : Bool) (l : Line) → xs ++ (cond (not b) (l
 added_or_not xs true l = append-nil xs
 added_or_not xs false l = refl
 
-entries_step : (d : DeckValue) (t : ℕ) (n : List ℕ) → entries_below d (suc (suc t)) n ≡ cond (goes_on (entry d t n) (entry d (suc t) n)) (entries_below d (suc t) n) (entries_below d (suc t) n ++ entry d (suc t) n ∷ [])
+pub entries_step : (d : DeckValue) (t : ℕ) (n : List ℕ) → entries_below d (suc (suc t)) n ≡ cond (goes_on (entry d t n) (entry d (suc t) n)) (entries_below d (suc t) n) (entries_below d (suc t) n ++ entry d (suc t) n ∷ [])
 entries_step d t n = entries_opened d t n ∙ added_or_not (entries_below d (suc t) n) (goes_on (entry d t n) (entry d (suc t) n)) (entry d (suc t) n)
 
-entries_first : (d : DeckValue) (n : List ℕ) → entries_below d 1 n ≡ entry d 0 n ∷ []
+pub entries_first : (d : DeckValue) (n : List ℕ) → entries_below d 1 n ≡ entry d 0 n ∷ []
 unfolding entries_below begins
 entries_first d n = refl
 

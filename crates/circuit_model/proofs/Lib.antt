@@ -1,3 +1,4 @@
+pub mod Carried
 pub mod Devices
 pub mod Entries
 pub mod Flows
@@ -6,5 +7,6 @@ pub mod Leads
 pub mod Networks
 pub mod Places
 pub mod Products
+pub mod Slopes
 pub mod Sources
 pub mod Totals

@@ -21,7 +21,7 @@ none = (0, pos 0)
 -- ---- rising ticks
 
 -- the tick of the first point is below that of the second, and the rest rises too
-rising_two : (p q : ℕ × ℤ) (ps : List (ℕ × ℤ)) → rising_times (p ∷ q ∷ ps) ≡ true → (p.0 < q.0) × (rising_times (q ∷ ps) ≡ true)
+pub rising_two : (p q : ℕ × ℤ) (ps : List (ℕ × ℤ)) → rising_times (p ∷ q ∷ ps) ≡ true → (p.0 < q.0) × (rising_times (q ∷ ps) ≡ true)
 rising_two p q ps up = let both = and_parts (nat_lt p.0 q.0) (rising_times (q ∷ ps)) up in (ltb-true p.0 q.0 both.0, both.1)
 
 -- the first point is the earliest

@@ -1,3 +1,4 @@
+pub mod Carried
 pub mod Ends
 pub mod Lines
 pub mod Network

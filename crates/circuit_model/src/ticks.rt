@@ -1,7 +1,9 @@
 ghost use Rattle.std.specs.Prelude.{◌≡◌, ◌≤◌, ◌<◌, ◌+◌, ℕ, [], length, map, slice_index_or, IfOk, OnOk, All};
 ghost use Rattle.semantics.specs.Deck.{nodes};
 ghost use Rattle.semantics.specs.Event.{events};
+ghost use Rattle.semantics.specs.Run.{run};
 ghost use Rattle.semantics.specs.Wave.{wave};
+ghost use Rattle.circuit_model.specs.Carried.{HasVoltage};
 ghost use Rattle.circuit_model.specs.Lines.{continued, line_of};
 
 use crate::events::Events;
@@ -96,9 +98,12 @@ pub struct Ran {
     pub events: Events,
 }
 
-/// Runs a deck tick by tick. Each line of its waves has a denominator of at least 1. It fails only for want of memory.
+/// Runs a deck tick by tick. Each line of its waves has a denominator of at least 1, and a wave followed to a tick up to
+/// the stop has the voltage that its node has there in the run. It fails only for want of memory.
 pub fn tick_run(alloc: Global, deck: &Deck) -> Result<Ran, AllocError>
     ensures waves { IfOk result (λ ran. ran.waves ≡ map (wave deck.now) (nodes deck.now)) }
+    ensures voltages { IfOk result (λ ran. (i tick : ℕ) → i < length (nodes deck.now) → tick ≤ deck.now.stop
+        → HasVoltage (slice_index_or ran.waves i []) tick (run deck.now tick (slice_index_or (nodes deck.now) i []))) }
     ensures events { IfOk result (λ ran. ran.events ≡ events deck.now) }
     ensures denominators { IfOk result (λ ran. All (λ lines. All (λ l. 1 ≤ l.den) lines) ran.waves) }
 {

@@ -7,10 +7,9 @@ use Rattle.std.specs.Prelude.{neg_ℤ}
 use borrow.Author.Differences.{up, down, product_is, sum_is_lem, abs_is}
 use Rattle.semantics.specs.declared.line.Line.{Line}
 use Rattle.semantics.specs.Grid.{difference}
-use Rattle.node_ramps.specs.Lines.{num_at, InBounds}
+use Rattle.node_ramps.specs.Lines.{num_at, voltage, InBounds}
 use Rattle.node_ramps.proofs.Sums.{same_line}
 use Rattle.device_tables.proofs.Counts.{times_times}
-use Rattle.crossing.specs.Crossing.{voltage}
 use Rattle.crossing.specs.Gaps.{slope, after, IsSmall}
 
 -- ---- sums times a number

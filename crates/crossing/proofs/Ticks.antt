@@ -5,7 +5,8 @@ use Rattle.semantics.specs.declared.line.Line.{Line}
 use Rattle.semantics.specs.Grid.{cell, difference}
 use Rattle.crossing.specs.declared.gap.Gap.{Gap}
 use Rattle.crossing.specs.Gaps.{after, cell_after}
-use Rattle.crossing.specs.Crossing.{voltage, cell_at, IsLeastCrossing}
+use Rattle.node_ramps.specs.Lines.{voltage}
+use Rattle.crossing.specs.Crossing.{cell_at, IsLeastCrossing}
 
 -- no tick up to the end has another cell
 pub crosses_never : (grid : List ℤ) (a b : Line) (now end : ℕ) → ((k : ℕ) → now + k ≤ end → cell_at grid a b (now + k) ≡ cell_at grid a b now) → IsLeastCrossing grid a b now end None

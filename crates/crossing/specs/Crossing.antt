@@ -1,13 +1,8 @@
 -- When the voltage between two lines comes into another cell.
 use Rattle.std.specs.Prelude.{◌≢◌, ℕ, ◌<◌, ◌≤◌, ℤ, List, Option, MatchOption}
-use Rattle.semantics.specs.declared.fraction.Fraction.{Fraction}
 use Rattle.semantics.specs.declared.line.Line.{Line}
 use Rattle.semantics.specs.Grid.{difference, cell}
-use Rattle.node_ramps.specs.Lines.{num_at}
-
--- a line's voltage at a tick
-abbrev pub voltage : Line → ℕ → Fraction
-voltage l tick = record { num = num_at l tick; den = l.den }
+use Rattle.node_ramps.specs.Lines.{voltage}
 
 -- the cell of a - b at a tick
 abbrev pub cell_at : List ℤ → Line → Line → ℕ → ℕ

@@ -1,7 +1,6 @@
 ghost use Rattle.std.specs.Prelude.{◌≡◌, ℕ, ◌+◌, ◌*◌, ◌^◌, ◌≤◌, pos, ◌+ℤ◌, ◌*ℤ◌, ◌≤ℤ◌, ◌<ℤ◌, unsigned_abs};
 ghost use Rattle.semantics.specs.Grid.{difference};
-ghost use Rattle.node_ramps.specs.Lines.{InBounds};
-ghost use Rattle.crossing.specs.Crossing.{voltage};
+ghost use Rattle.node_ramps.specs.Lines.{InBounds, voltage};
 ghost use Rattle.crossing.specs.Gaps.{slope, after, IsSmall, IsSmallFraction, BeginsIn, IsRoom, IsStay};
 
 use device_tables::Grid;

@@ -1,5 +1,5 @@
--- The nodes that elements name one after another, and the first of them that is one too many.
-use Rattle.std.proofs.Common.{◌≡◌, ◌∙◌, ℕ, ◌+◌, ◌<◌, ◌≤◌, nat_le, Bool, true, false, ◌||◌, if◌then◌else◌, List, [], ◌∷◌, ◌++◌, length, drop, get_or, fold, None, refl, sym, ap, subst, arith}
+-- How many elements there are, the nodes that they name one after another, and the first that is one too many.
+use Rattle.std.proofs.Common.{◌≡◌, ◌∙◌, ℕ, ◌+◌, ◌<◌, ◌≤◌, nat_le, Bool, true, false, ◌||◌, if◌then◌else◌, List, [], ◌∷◌, ◌++◌, length, drop, get_or, fold, slice_get, None, refl, sym, ap, subst, inl, inr, arith}
 use Rattle.std.specs.List.{flat_map, list_any}
 use Rattle.std.specs.Option.{option_or}
 use Rattle.std.specs.Str.{bytes_eq}
@@ -7,12 +7,13 @@ use Rattle.std.proofs.lemmas.Bool.{le-leb}
 use Rattle.std.proofs.lemmas.Bool.Decides.{nat_tests}
 use Rattle.std.proofs.lemmas.List.{length_push}
 use Rattle.std.proofs.lemmas.List.Sums.{fold-append}
+use Rattle.std.proofs.lemmas.Option.{slice_get_cases}
 use Rattle.semantics.specs.declared.element.Element.{Element}
 use Rattle.semantics.specs.Ground.{is_ground}
-use Rattle.semantics.specs.Deck.{name_of, ends_of, with_node}
+use Rattle.semantics.specs.Deck.{DeckValue, name_of, ends_of, with_node}
 use Rattle.deck_cards.specs.declared.which.Which.TheVariants.{Nodes}
-use Rattle.deck_cards.specs.Causes.{limit, many_nodes_from}
-use Rattle.deck_cards.proofs.Firsts.{dropped, none-or}
+use Rattle.deck_cards.specs.Causes.{limit, many_elements, many_nodes_from}
+use Rattle.deck_cards.proofs.Firsts.{dropped, none-or, none_map}
 
 -- ---- no name is taken away
 
@@ -41,6 +42,13 @@ unfolding many_nodes_from
 nodes_end seen = refl
 
 -- ---- exactly where there are few
+
+pub few_elements : (d : DeckValue) → many_elements d ≡ None → length d.elements ≤ 100000
+unfolding many_elements
+few_elements d none = few_items d.elements (none_map _ _ none)
+  where
+    few_items : {A : Type 0} (xs : List A) → slice_get xs 100000 ≡ None → length xs ≤ 100000
+    few_items xs h = elim (slice_get_cases xs 100000).1 [ inl w ↦ absurd (cc (w.2, h)) | inr p ↦ p.0 ]
 
 pub few_none : (es : List Element) (seen : List (List ℕ)) → length (fold with_node seen (flat_map ends_of es)) ≤ 100000 → many_nodes_from seen es ≡ None
 unfolding many_nodes_from

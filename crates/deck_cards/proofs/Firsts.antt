@@ -9,10 +9,6 @@ use Rattle.deck_cards.specs.declared.edit_refusal.EditRefusal.TheVariants.{Memor
 use Rattle.deck_cards.specs.Answers.{Refuses, Answers}
 use Rattle.deck_cards.specs.Causes.{when, first_that}
 
--- want of memory refuses whatever the cause
-pub memory_refuses : (e : EditRefusal) (cause : Option EditRefusal) → e ≡ Memory → Refuses e cause
-memory_refuses e cause is = subst (λ x. Refuses x cause) (sym is) tt
-
 -- what is refused for the first of two causes is refused for both
 pub refuses_first : (e : EditRefusal) (a b : Option EditRefusal) → Refuses e a → Refuses e (option_or a b)
 refuses_first Memory a b h = tt

@@ -1,25 +1,24 @@
 -- What is known of a node by the elements so far, and by one more; and that it is what the definitions say.
-use Rattle.std.proofs.Common.{◌≡◌, ℕ, suc, zero, ◌+◌, ◌*◌, ◌^◌, ◌<◌, ◌≤◌, Bool, true, false, not, ◌||◌, if◌then◌else◌, List, [], ◌∷◌, ◌++◌, length, map, take, fold, get_or, Option, Some, None, is_some, ℤ, pos, ◌+ℤ◌, unsigned_abs, SFits, w64, refl, sym, ◌∙◌, ap, subst, arith, add-zero, add-one}
+use Rattle.std.proofs.Common.{◌≡◌, ℕ, suc, zero, ◌+◌, ◌*◌, ◌^◌, ◌<◌, ◌≤◌, Bool, true, false, not, ◌||◌, if◌then◌else◌, List, [], ◌∷◌, ◌++◌, length, map, take, get_or, Option, Some, None, is_some, ℤ, pos, ◌+ℤ◌, unsigned_abs, SFits, w64, refl, sym, ◌∙◌, ap, subst, arith, add-one}
 use Rattle.std.specs.Option.{option_map, option_or}
-use Rattle.std.specs.List.{list_all, All}
+use Rattle.std.specs.List.{list_all}
 use Rattle.std.specs.Str.{bytes_eq}
 use Rattle.std.proofs.lemmas.Bool.{false≢true}
 use Rattle.std.proofs.lemmas.Int.{ints}
 use Rattle.std.proofs.lemmas.List.{take_more, length-take}
 use Rattle.std.proofs.lemmas.List.Sums.{fold-append}
-use Rattle.std.proofs.lemmas.List.Elements.{All-map}
 use Rattle.semantics.specs.Ground.{is_ground}
 use Rattle.semantics.specs.declared.element.Element.{Element}
 use Rattle.semantics.specs.declared.element.Element.TheVariants.{Resistor, Capacitor, Source, Mos}
-use Rattle.semantics.specs.Deck.{drives, farads_at, terminals_at, look_up}
+use Rattle.semantics.specs.Deck.{drives, farads_at}
 use Rattle.semantics.specs.Valid.{one_ground}
 use Rattle.deck_cards.specs.declared.facts.NodeFacts.{NodeFacts}
-use Rattle.deck_cards.specs.Facts.{place_of, source_of, farads_of, terminals_of, known, ChangesAt}
+use Rattle.deck_cards.specs.Facts.{place_of, source_of, farads_of, known}
 use Rattle.deck_cards.proofs.Named.{same_name, and_both}
 
--- what no element and no initial voltage speaks of
+-- what is known of a node that no element names
 abbrev pub nothing : NodeFacts
-nothing = record { source = None; farads = pos 0; terminals = 0; initial = None }
+nothing = record { source = None; farads = pos 0 }
 
 -- ---- one more element
 
@@ -43,26 +42,26 @@ abbrev pub noted : ℕ → Element → List ℕ → NodeFacts → NodeFacts
 noted place e n f = record {
   source = option_or f.source (if is_some (drives n e) then Some place else None);
   farads = f.farads +ℤ farads_at n e;
-  terminals = f.terminals + terminals_at n e;
-  initial = f.initial;
 }
 
-known-push : (es : List Element) (e : Element) (initial : List (List ℕ × ℤ)) (n : List ℕ) → known (es ++ e ∷ []) initial n ≡ noted (length es) e n (known es initial n)
-unfolding source_of farads_of terminals_of
-known-push es e initial n = λ i. record {
+known-push : (es : List Element) (e : Element) (n : List ℕ) → known (es ++ e ∷ []) n ≡ noted (length es) e n (known es n)
+unfolding source_of farads_of
+known-push es e n = λ i. record {
   source = place_of-push (λ x. is_some (drives n x)) es e i;
   farads = fold-append (λ total x. total +ℤ farads_at n x) (pos 0) es (e ∷ []) i;
-  terminals = fold-append (λ total x. total + terminals_at n x) 0 es (e ∷ []) i;
-  initial = look_up n initial;
 }
 
+pub known-none : (n : List ℕ) → known [] n ≡ nothing
+unfolding source_of farads_of
+known-none n = refl
+
 -- the step of a loop over the elements
-pub known-more : (es : List Element) (initial : List (List ℕ × ℤ)) (place : ℕ) (e d : Element) (names : List (List ℕ)) (facts : List NodeFacts) → place < length es → e ≡ get_or es place d
-    → facts ≡ map (λ n. noted place e n (known (take place es) initial n)) names → facts ≡ map (known (take (place + 1) es) initial) names
-known-more es initial place e d names facts within at same =
+pub known-more : (es : List Element) (place : ℕ) (e d : Element) (names : List (List ℕ)) (facts : List NodeFacts) → place < length es → e ≡ get_or es place d
+    → facts ≡ map (λ n. noted place e n (known (take place es) n)) names → facts ≡ map (known (take (place + 1) es)) names
+known-more es place e d names facts within at same =
     let long : length (take place es) ≡ place = omega (arith, length-take place es) in
     let front : take (place + 1) es ≡ take place es ++ e ∷ [] = take_more es place d within ∙ ap (λ x. take place es ++ x ∷ []) (sym at) in
-    same ∙ (λ i. map (λ n. (ap (λ l. noted l e n (known (take place es) initial n)) (sym long) ∙ sym (known-push (take place es) e initial n) ∙ ap (λ l. known l initial n) (sym front)) i) names)
+    same ∙ (λ i. map (λ n. (ap (λ l. noted l e n (known (take place es) n)) (sym long) ∙ sym (known-push (take place es) e n) ∙ ap (λ l. known l n) (sym front)) i) names)
 
 or_none : (o : Option ℕ) → o ≡ option_or o None
 or_none None = refl
@@ -73,31 +72,18 @@ no_farads z = omega (arith, ints)
 
 -- ---- what an element at its ends adds is what the code adds end by end
 
-module _ (names : List (List ℕ)) (one two : List ℕ) (g : NodeFacts → NodeFacts) (old mid new : List NodeFacts) (f h : List ℕ → NodeFacts) where
-  -- two changes, one after another
-  pub twice : old ≡ map f names → ChangesAt names one g old mid → ChangesAt names two g mid new
-      → ((n : List ℕ) → (if bytes_eq n two then g (if bytes_eq n one then g (f n) else f n) else (if bytes_eq n one then g (f n) else f n)) ≡ h n) → new ≡ map h names
-  twice same first second is = second _ (first f same) ∙ (λ i. map (λ n. is n i) names)
-
--- ends that carry current
-pub counted : (a b : Bool) (f : NodeFacts)
-    → (if b then record (if a then record f { terminals = f.terminals + 1 } else f) { terminals = (if a then record f { terminals = f.terminals + 1 } else f).terminals + 1 } else (if a then record f { terminals = f.terminals + 1 } else f))
-    ≡ record { source = option_or f.source None; farads = f.farads +ℤ pos 0; terminals = f.terminals + ((if a then 1 else 0) + (if b then 1 else 0)); initial = f.initial }
-counted true true f =
-    let t : f.terminals + 1 + 1 ≡ f.terminals + 2 = omega arith in
-    λ i. record { source = or_none f.source i; farads = no_farads f.farads i; terminals = t i; initial = f.initial }
-counted true false f = λ i. record { source = or_none f.source i; farads = no_farads f.farads i; terminals = f.terminals + 1; initial = f.initial }
-counted false true f = λ i. record { source = or_none f.source i; farads = no_farads f.farads i; terminals = f.terminals + 1; initial = f.initial }
-counted false false f = λ i. record { source = or_none f.source i; farads = no_farads f.farads i; terminals = sym (add-zero f.terminals) i; initial = f.initial }
+-- an element that says nothing of a node
+pub untouched : (f : NodeFacts) → f ≡ record { source = option_or f.source None; farads = f.farads +ℤ pos 0 }
+untouched f = λ i. record { source = or_none f.source i; farads = no_farads f.farads i }
 
 -- the ends of a capacitor, which are not the same
 pub charged : (a b : Bool) (x y : ℤ) (f : NodeFacts) → y ≡ x → (a ≡ true → b ≡ true → ⊥)
     → (if b then record (if a then record f { farads = f.farads +ℤ y } else f) { farads = (if a then record f { farads = f.farads +ℤ y } else f).farads +ℤ y } else (if a then record f { farads = f.farads +ℤ y } else f))
-    ≡ record { source = option_or f.source None; farads = f.farads +ℤ (if a || b then x else pos 0); terminals = f.terminals + 0; initial = f.initial }
+    ≡ record { source = option_or f.source None; farads = f.farads +ℤ (if a || b then x else pos 0) }
 charged true true x y f is apart = absurd (apart refl refl)
-charged true false x y f is apart = λ i. record { source = or_none f.source i; farads = f.farads +ℤ is i; terminals = sym (add-zero f.terminals) i; initial = f.initial }
-charged false true x y f is apart = λ i. record { source = or_none f.source i; farads = f.farads +ℤ is i; terminals = sym (add-zero f.terminals) i; initial = f.initial }
-charged false false x y f is apart = λ i. record { source = or_none f.source i; farads = no_farads f.farads i; terminals = sym (add-zero f.terminals) i; initial = f.initial }
+charged true false x y f is apart = λ i. record { source = or_none f.source i; farads = f.farads +ℤ is i }
+charged false true x y f is apart = λ i. record { source = or_none f.source i; farads = f.farads +ℤ is i }
+charged false false x y f is apart = untouched f
 
 -- what a source drives, by whether the name is its first and its second end
 abbrev pub drives_by : Bool → Bool → List (ℕ × ℤ) → Option (List (ℕ × ℤ) × Bool)
@@ -106,15 +92,15 @@ drives_by a b wave = if a then Some (wave, false) else if b then Some (wave, tru
 -- the ends of a source
 pub sourced : (a b : Bool) (p : ℕ) (wave : List (ℕ × ℤ)) (f : NodeFacts)
     → (if b then record (if a then record f { source = option_or f.source (Some p) } else f) { source = option_or (if a then record f { source = option_or f.source (Some p) } else f).source (Some p) } else (if a then record f { source = option_or f.source (Some p) } else f))
-    ≡ record { source = option_or f.source (if is_some (drives_by a b wave) then Some p else None); farads = f.farads +ℤ pos 0; terminals = f.terminals + 0; initial = f.initial }
-sourced true true p wave f = λ i. record { source = again f.source i; farads = no_farads f.farads i; terminals = sym (add-zero f.terminals) i; initial = f.initial }
+    ≡ record { source = option_or f.source (if is_some (drives_by a b wave) then Some p else None); farads = f.farads +ℤ pos 0 }
+sourced true true p wave f = λ i. record { source = again f.source i; farads = no_farads f.farads i }
   where
     again : (s : Option ℕ) → option_or (option_or s (Some p)) (Some p) ≡ option_or s (Some p)
     again None = refl
     again (Some x) = refl
-sourced true false p wave f = λ i. record { source = option_or f.source (Some p); farads = no_farads f.farads i; terminals = sym (add-zero f.terminals) i; initial = f.initial }
-sourced false true p wave f = λ i. record { source = option_or f.source (Some p); farads = no_farads f.farads i; terminals = sym (add-zero f.terminals) i; initial = f.initial }
-sourced false false p wave f = λ i. record { source = or_none f.source i; farads = no_farads f.farads i; terminals = sym (add-zero f.terminals) i; initial = f.initial }
+sourced true false p wave f = λ i. record { source = option_or f.source (Some p); farads = no_farads f.farads i }
+sourced false true p wave f = λ i. record { source = option_or f.source (Some p); farads = no_farads f.farads i }
+sourced false false p wave f = untouched f
 
 -- a name is not both ends where exactly one of them is ground
 pub not_both : (n plus minus : List ℕ) → one_ground plus minus ≡ true → bytes_eq n plus ≡ true → bytes_eq n minus ≡ true → ⊥
@@ -133,35 +119,6 @@ each_passes p (x ∷ xs) zero d all within = (and_both (p x) (list_all p xs) all
 each_passes p (x ∷ xs) (suc i) d all within = each_passes p xs i d (and_both (p x) (list_all p xs) all).1 (omega arith)
 
 -- ---- bounds
-
-terminals_small : (n : List ℕ) (e : Element) → terminals_at n e ≤ 2
-terminals_small n (Resistor name first second ohms) = by (bytes_eq n first) (bytes_eq n second)
-  where
-    by : (a b : Bool) → (if a then 1 else 0) + (if b then 1 else 0) ≤ 2
-    by true true = omega arith
-    by true false = omega arith
-    by false true = omega arith
-    by false false = omega arith
-terminals_small n (Capacitor name plus minus farads) = omega arith
-terminals_small n (Source name plus minus wave) = omega arith
-terminals_small n (Mos name drain gate source bulk part len width) = by (bytes_eq n drain) (bytes_eq n source)
-  where
-    by : (a b : Bool) → (if a then 1 else 0) + (if b then 1 else 0) ≤ 2
-    by true true = omega arith
-    by true false = omega arith
-    by false true = omega arith
-    by false false = omega arith
-
-sum_small : {A : Type 0} (g : A → ℕ) → ((x : A) → g x ≤ 2) → (xs : List A) (a : ℕ) → fold (λ t x. t + g x) a xs ≤ a + 2 * length xs
-sum_small g each [] a = omega arith
-sum_small g each (x ∷ xs) a = omega (arith, sum_small g each xs (a + g x), each x)
-
--- a front of fewer elements than a list can have brings fewer terminals than a count can
-pub few_terminals : (n : List ℕ) (es : List Element) (place : ℕ) → place < length es → length es < 2 ^ 63 → terminals_of n (take place es) + 2 < 2 ^ 64
-unfolding terminals_of
-few_terminals n es place within few =
-    let long : length (take place es) ≡ place = omega (arith, length-take place es) in
-    omega (arith, sum_small (terminals_at n) (terminals_small n) (take place es) 0, long)
 
 sum_size : (a b : ℤ) (k : ℕ) → unsigned_abs a ≤ 2 ^ 63 * k → unsigned_abs b ≤ 2 ^ 63 → unsigned_abs (a +ℤ b) ≤ 2 ^ 63 * (k + 1)
 sum_size a b k ha hb = omega (arith, ints)
@@ -191,7 +148,3 @@ small-more es place e d within at holds before n =
     let grown : farads_of n (take (place + 1) es) ≡ farads_of n (take place es) +ℤ farads_at n e =
     ap (farads_of n) (take_more es place d within ∙ ap (λ x. take place es ++ x ∷ []) (sym at)) ∙ fold-append (λ t x. t +ℤ farads_at n x) (pos 0) (take place es) (e ∷ []) in
     subst (λ z. unsigned_abs z ≤ 2 ^ 63 * (place + 1)) (sym grown) (sum_size (farads_of n (take place es)) (farads_at n e) place (before n) (farads_small n e holds))
-
--- what holds of the value of each name holds of each value
-pub every_value : (P : NodeFacts → Type 0) (f : List ℕ → NodeFacts) (names : List (List ℕ)) (facts : List NodeFacts) → facts ≡ map f names → ((n : List ℕ) → P (f n)) → All P facts
-every_value P f names facts same each = subst (All P) (sym same) (All-map P f names (λ k d h. each _))

@@ -1,6 +1,7 @@
 pub mod Added
 pub mod Counting
 pub mod Differ
+pub mod Ends
 pub mod Firsts
 pub mod FreeNodes
 pub mod Known

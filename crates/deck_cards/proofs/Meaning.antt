@@ -103,17 +103,17 @@ capacity_small d n valid =
 
 -- what stands at the place of a node is what is known of it
 pub known_at : (d : DeckValue) (keys : List (List ℕ)) (row : List NodeFacts) (i : ℕ) (f : NodeFacts) → IsTable d keys row → i < length (nodes d) → f ≡ get_or row i f
-    → f ≡ known d.elements d.initial (get_or (nodes d) i [])
+    → f ≡ known d.elements (get_or (nodes d) i [])
 known_at d keys row i f table within at =
-    at ∙ ap (λ l. get_or l i f) table.facts ∙ read_named (known d.elements d.initial) (nodes d) (get_or (nodes d) i []) i f (slice_get-get_or (nodes d) i [] within)
+    at ∙ ap (λ l. get_or l i f) table.facts ∙ read_named (known d.elements) (nodes d) (get_or (nodes d) i []) i f (slice_get-get_or (nodes d) i [] within)
 
 pub at_node : (d : DeckValue) (keys : List (List ℕ)) (row : List NodeFacts) (i : ℕ) (f : NodeFacts) (P : List ℕ → Type 0) → IsTable d keys row → i < length (nodes d) → f ≡ get_or row i f
-    → ((n : List ℕ) → slice_get (nodes d) i ≡ Some n → f ≡ known d.elements d.initial n → P n) → IfSome (slice_get (nodes d) i) P
+    → ((n : List ℕ) → slice_get (nodes d) i ≡ Some n → f ≡ known d.elements n → P n) → IfSome (slice_get (nodes d) i) P
 at_node d keys row i f P table within at each =
     let there = slice_get-get_or (nodes d) i [] within in
     subst (λ o. IfSome o P) (sym there) (each (get_or (nodes d) i []) there (known_at d keys row i f table within at))
 
-pub capacity_is : (d : DeckValue) (n : List ℕ) (f : NodeFacts) → f ≡ known d.elements d.initial n → unsigned_abs f.farads ≡ capacity d n
+pub capacity_is : (d : DeckValue) (n : List ℕ) (f : NodeFacts) → f ≡ known d.elements n → unsigned_abs f.farads ≡ capacity d n
 unfolding total_farads farads_of
 capacity_is d n f is = ap (λ x. unsigned_abs x.farads) is
 

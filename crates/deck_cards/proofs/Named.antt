@@ -1,13 +1,15 @@
 -- A list that has a value for each of some names that differ: what the value of a name is, and what a write to it leaves.
-use Rattle.std.proofs.Common.{◌≡◌, ℕ, suc, zero, Bool, true, false, not, ◌&&◌, ◌||◌, if◌then◌else◌, cond, List, [], ◌∷◌, map, get_or, set, position, Option, Some, None, is_some, slice_get, refl, sym, ◌∙◌, ap, subst}
-use Rattle.std.specs.List.{list_any}
+use Rattle.std.proofs.Common.{◌≡◌, ℕ, suc, zero, Bool, true, false, not, ◌&&◌, ◌||◌, if◌then◌else◌, cond, List, [], ◌∷◌, length, map, get_or, set, replicate, position, Option, Some, None, is_some, slice_get, refl, sym, ◌∙◌, ap, subst}
+use Rattle.std.specs.List.{list_any, All}
 use Rattle.std.specs.Str.{bytes_eq}
 use Rattle.std.specs.Option.{option_map}
 use Rattle.std.specs.Cmp.Lexicographic.{nat_list_eq_equiv}
 use Rattle.std.proofs.lemmas.Slice.Eq.{bytes_eq-Decides}
+use Rattle.std.proofs.lemmas.List.Elements.{All-map}
 use Rattle.std.proofs.lemmas.List.Quantifiers.{position-Some}
 use Rattle.std.proofs.lemmas.Option.{slice_get-get_or, slice_get-map, get_or_from_slice_get}
 use Rattle.semantics.specs.Valid.{differ}
+use Rattle.deck_cards.specs.Facts.{ChangesAt}
 
 pub or_both : (a b : Bool) → (a || b) ≡ false → (a ≡ false) × (b ≡ false)
 or_both true b h = absurd (cc)
@@ -88,3 +90,19 @@ module _ {F : Type 0} (g : F → F) (names : List (List ℕ)) (n : List ℕ) (ol
   pub unchanged : (r : Option ℕ) → is_some r ≡ list_any (bytes_eq n) names → r ≡ None
       → (f : List ℕ → F) → old ≡ map f names → old ≡ map (λ m. if bytes_eq m n then g (f m) else f m) names
   unchanged r found none f same = same ∙ others_stay f g names n (sym found ∙ ap is_some none)
+
+-- two changes, one after another
+module _ {F : Type 0} (names : List (List ℕ)) (one two : List ℕ) (g : F → F) (old mid new : List F) (f h : List ℕ → F) where
+  pub twice : old ≡ map f names → ChangesAt names one g old mid → ChangesAt names two g mid new
+      → ((n : List ℕ) → (if bytes_eq n two then g (if bytes_eq n one then g (f n) else f n) else (if bytes_eq n one then g (f n) else f n)) ≡ h n) → new ≡ map h names
+  twice same first second is = second _ (first f same) ∙ (λ i. map (λ n. is n i) names)
+
+module _ {F : Type 0} (f : List ℕ → F) where
+  -- what holds of the value of each name holds of each value
+  pub every_value : (P : F → Type 0) (names : List (List ℕ)) (values : List F) → values ≡ map f names → ((n : List ℕ) → P (f n)) → All P values
+  every_value P names values same each = subst (All P) (sym same) (All-map P f names (λ k d h. each _))
+
+  -- names that all have one value
+  pub one_value : (x : F) → ((n : List ℕ) → f n ≡ x) → (names : List (List ℕ)) → replicate (length names) x ≡ map f names
+  one_value x is [] = refl
+  one_value x is (n ∷ ns) = λ i. sym (is n) i ∷ one_value x is ns i

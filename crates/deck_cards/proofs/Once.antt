@@ -1,5 +1,5 @@
 -- Names and values of which each name stands once, and how a map in order of insertion makes and finds them.
-use Rattle.std.proofs.Common.{◌≡◌, ℕ, Bool, true, false, ◌||◌, if◌then◌else◌, List, [], ◌∷◌, ◌++◌, not, ◌&&◌, fold, map, position, slice_get, Option, Some, None, is_some, IfSome, IfNone, Bor, refl, sym, ◌∙◌, ap, subst}
+use Rattle.std.proofs.Common.{◌≡◌, ℕ, Bool, true, false, ◌||◌, if◌then◌else◌, List, [], ◌∷◌, ◌++◌, not, ◌&&◌, fold, map, position, slice_get, Option, Some, None, is_some, is_none, IfSome, IfNone, Bor, refl, sym, ◌∙◌, ap, subst}
 use Rattle.std.specs.List.{list_any}
 use Rattle.std.specs.Option.{option_map, option_copied}
 use Rattle.std.specs.Map.{lookup}
@@ -51,6 +51,14 @@ found_is f n ps = ap is_some (look_up_is n ps) ∙ same f (look_up n ps) ∙ ap 
     same : {A B : Type 0} (f : A → B) (o : Option A) → is_some o ≡ is_some (option_map f o)
     same f None = refl
     same f (Some x) = refl
+
+-- a name is missing in a map where the definition finds none
+pub missing_is : {A : Type 0} (n : List ℕ) (ps : List (List ℕ × A)) → not (is_some (lookup (bytes_eq n) ps)) ≡ is_none (look_up n ps)
+missing_is n ps = ap (λ o. not (is_some o)) (look_up_is n ps) ∙ turned (look_up n ps)
+  where
+    turned : {A : Type 0} (o : Option A) → not (is_some o) ≡ is_none o
+    turned None = refl
+    turned (Some x) = refl
 
 -- a borrowed value is changed as the value
 pub option_copied_map : {A B : Type 0} (f : A → B) (o : Option (Bor A)) → option_map (λ x. f x.now) o ≡ option_map f (option_copied o)

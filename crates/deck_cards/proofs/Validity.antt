@@ -1,12 +1,12 @@
 -- A deck has no cause against it exactly where it is valid, for waves and tables that are what their types say and names that stand once.
-use Rattle.std.proofs.Common.{◌≡◌, ◌∙◌, ℕ, ◌^◌, ◌+◌, ◌≤◌, nat_le, Bool, true, false, not, ◌&&◌, ◌||◌, if◌then◌else◌, List, [], ◌∷◌, length, map, fold, slice_get, None, is_none, is_some, ℤ, pos, negsuc, ◌+ℤ◌, int_lt, int_le, Less, Equal, Greater, codes, refl, ap, inl, inr, arith}
+use Rattle.std.proofs.Common.{◌≡◌, ◌∙◌, ℕ, ◌^◌, ◌+◌, nat_le, Bool, true, false, not, ◌&&◌, ◌||◌, if◌then◌else◌, List, [], ◌∷◌, length, map, fold, None, is_none, is_some, ℤ, pos, negsuc, ◌+ℤ◌, int_lt, int_le, Less, Equal, Greater, codes, refl, ap, arith}
 use Rattle.std.specs.List.{list_all, flat_map}
 use Rattle.std.specs.Option.{option_or, option_map}
 use Rattle.std.specs.Ordering.{int_eq, is_eq}
 use Rattle.std.specs.Str.{bytes_eq}
 use Rattle.std.proofs.lemmas.Bool.{le-leb, false≢true}
 use Rattle.std.proofs.lemmas.Bool.Decides.{nat_tests}
-use Rattle.std.proofs.lemmas.Option.{slice_get_past, slice_get_cases}
+use Rattle.std.proofs.lemmas.Option.{slice_get_past}
 use Rattle.semantics.specs.declared.element.Element.{Element}
 use Rattle.semantics.specs.declared.element.Element.TheVariants.{Resistor, Capacitor, Source, Mos}
 use Rattle.semantics.specs.Part as part
@@ -17,7 +17,7 @@ use Rattle.deck_cards.specs.declared.edit_refusal.EditRefusal.TheVariants.{Uncap
 use Rattle.deck_cards.specs.declared.which.Which.TheVariants.{Volts, Seconds, Grain, Elements, NodeFarads, Terminals}
 use Rattle.deck_cards.specs.Causes.{limit, limited, adding_cause, uncapped, no_initial, value_limit, many_elements, many_nodes, node_farads, many_terminals, part_limit, element_limit, whole_cause, deck_cause}
 use Rattle.deck_cards.proofs.Added.{can_add, added}
-use Rattle.deck_cards.proofs.Counting.{few_none, none_few}
+use Rattle.deck_cards.proofs.Counting.{few_none, none_few, few_elements}
 use Rattle.deck_cards.proofs.Firsts.{none-or, none_that, that_none, none_map}
 use Rattle.deck_cards.proofs.Named.{and_both, from_not}
 use Rattle.deck_cards.proofs.Within.{limit_none, none_limit, none_first, all_none, limited_none, element_none, part_none}
@@ -182,13 +182,10 @@ clear_valid d clear parts_differ parts initial_differ elements =
     let e = none_that (λ n. not (nat_le (terminals d n) 1000)) free (none_map (Limit Terminals) _ clear.ends) in
     let both = all_both (has_farads d) _ free a (all_both (has_volts d) _ free b (all_both (few_farads d) (few_ends d) free c e)) in
     let held = all_imply _ (is_held d) (λ n h. held_by d n elements h) free both in
-    let few = le-leb (length d.elements) 100000 (few_items d.elements (none_map _ _ clear.elements)) in
+    let few = le-leb (length d.elements) 100000 (few_elements d clear.elements) in
     let nodes_few = le-leb (length (nodes d)) 100000 (none_few d.elements [] (omega arith) clear.nodes) in
     λ i. ((none_limit _ Seconds (codes ".tran") stop.0 i && none_limit _ Grain (codes ".options") grain.0 i) && ((parts_differ i && parts i) && (initial_differ i && small i)))
     && (((can.names i && can.driven i) && (can.grounded i && (can.parts i && elements i))) && ((few i && nodes_few i) && held i))
-  where
-    few_items : {A : Type 0} (xs : List A) → slice_get xs 100000 ≡ None → length xs ≤ 100000
-    few_items xs h = elim (slice_get_cases xs 100000).1 [ inl w ↦ absurd (cc (w.2, h)) | inr p ↦ p.0 ]
 
 -- both ways at once: the cause is none exactly where the deck is valid
 none_clear : (d : DeckValue) → deck_cause d ≡ None → IsClear d

@@ -109,7 +109,7 @@ pub fn add_each(alloc: Global, cards: &Settled) -> Result<IndexSet<Name>, EditRe
     ensures cause { Answers result (adding_cause (deck_of cards.now) [] cards.now.elements.items) }
     ensures names { IfOk result (λ names. names.keys ≡ map name_of cards.now.elements.items) }
 {
-    let mut names = IndexSet::new(alloc);
+    let mut names = IndexSet::with_capacity(alloc, cards.elements.len())?;
     let mut driven = IndexSet::new(alloc);
     for element in &cards.elements {
         add(&mut names, &mut driven, cards, element)?;

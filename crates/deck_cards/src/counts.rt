@@ -5,7 +5,7 @@ ghost use Rattle.std.specs.List.{flat_map};
 ghost use Rattle.semantics.specs.Deck.{ends_of, with_node};
 ghost use Rattle.deck_cards.specs.Answers.{Answers};
 ghost use Rattle.deck_cards.specs.Cards.{deck_of};
-ghost use Rattle.deck_cards.specs.Causes.{many_elements, many_nodes, many_nodes_from};
+ghost use Rattle.deck_cards.specs.Causes.{many_elements, many_nodes};
 
 use crate::edit_refusal::EditRefusal;
 use crate::settled::Settled;

@@ -1,4 +1,4 @@
-ghost use Rattle.std.specs.Prelude.{[], ◌≡◌, ◌<◌, ℕ, true, false, map, length, slice_get, unsigned_abs, None, Some, IfOk, OnOk, IfSome, IfNone, IsTrue, option_map};
+ghost use Rattle.std.specs.Prelude.{◌≡◌, ◌<◌, true, false, map, length, slice_get, unsigned_abs, None, Some, IfOk, OnOk, IfSome, IfNone, IsTrue, option_map};
 ghost use Rattle.std.specs.List.{list_all, list_any};
 ghost use Rattle.std.specs.Str.{bytes_eq};
 ghost use Rattle.semantics.specs.Deck.{nodes, name_of, driver, capacity, initial_of, look_up};
@@ -51,12 +51,12 @@ fn check_whole(alloc: Global, cards: &Settled, table: &NodeTable) -> Result<(), 
     ensures elements { OnOk result (list_all in_limits cards.now.elements.items ≡ true) }
 {
     table.check_capped()?;
-    table.check_initial(cards.uic)?;
+    table.check_initial(cards.uic, &cards.initial)?;
     values::check_values(alloc, cards)?;
     counts::check_elements(cards)?;
     counts::check_nodes(alloc, table.names.len(), cards)?;
     table.check_farads()?;
-    table.check_terminals()
+    table.check_terminals(alloc, cards)
 }
 
 /// The names of the elements of these cards, and their nodes, where the cards make a valid deck.
@@ -191,7 +191,7 @@ impl Deck {
         requires { i < length (nodes self.now) }
         ensures { IfSome (slice_get (nodes self.now) i) (λ n. result ≡ initial_of self.now n) }
     {
-        self.table.facts[i].initial.unwrap_or(0)
+        self.initial(self.node(i)).unwrap_or(0)
     }
 
     /// The voltage in microvolts that is given to a name at the beginning. `None` exactly where none

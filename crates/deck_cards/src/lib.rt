@@ -12,12 +12,14 @@ mod nodes;
 mod part;
 mod parts;
 mod settled;
+mod terminals;
 mod values;
 mod which;
 
 pub use deck::Deck;
 pub use edit_refusal::EditRefusal;
 pub use elements::{is_grounded, name_of};
+pub use nodes::add_ends;
 pub use part::Part;
 pub use parts::DeckParts;
 pub use semantics::{Channel, Element, Name, Title, Wave, WaveRefusal};

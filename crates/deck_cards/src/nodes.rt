@@ -12,10 +12,10 @@ ghost use Rattle.deck_cards.specs.Causes.{uncapped, no_initial, node_farads, man
 ghost use Rattle.deck_cards.specs.Facts.{ChangesAt, IsTable, farads_of, known};
 
 use crate::edit_refusal::EditRefusal;
-use crate::facts;
 use crate::facts::NodeFacts;
 use crate::settled::Settled;
 use crate::which::Which;
+use crate::{facts, terminals};
 use indexmap::{IndexMap, IndexSet};
 use semantics::{Element, Name};
 use std::alloc::{AllocError, Global};
@@ -38,7 +38,12 @@ fn add_node(names: &mut IndexSet<Name>, name: &Name) -> Result<(), AllocError>
     Ok(())
 }
 
-/// Puts the ends of an element behind the nodes.
+/// Puts the nodes at the ends of an element behind those seen so far, in the order of its card: each
+/// that is not ground and not among them yet. A device's bulk is no end.
+///
+/// # Errors
+///
+/// Where memory is wanting. Some of the nodes may then stand there already.
 pub fn add_ends(names: &mut IndexSet<Name>, element: &Element) -> Result<(), AllocError>
     ensures { OnOk result (names.new.keys ≡ fold with_node names.old.keys (ends_of element.now)) }
 {
@@ -79,18 +84,6 @@ fn names_of(alloc: Global, elements: &[Element]) -> Result<IndexSet<Name>, Alloc
     Ok(names)
 }
 
-/// Counts an end that carries current, where the name is a node.
-fn count_terminal(names: &IndexSet<Name>, facts: &mut [NodeFacts], name: &Name)
-    requires differ { differ names.now.keys ≡ true }
-    requires size { length facts.old ≡ length names.now.keys }
-    requires room { All (λ f. f.terminals + 1 < 2 ^ 64) facts.old }
-    ensures { ChangesAt names.now.keys name.now (λ f. record f { terminals = f.terminals + 1 }) facts.old facts.new }
-{
-    if let Some(place) = names.get_index_of(name) {
-        facts[place].terminals += 1;
-    }
-}
-
 /// Adds a capacitance, where the name is a node.
 fn add_farads(names: &IndexSet<Name>, facts: &mut [NodeFacts], name: &Name, farads: &i128)
     requires differ { differ names.now.keys ≡ true }
@@ -120,16 +113,12 @@ fn note_element(names: &IndexSet<Name>, facts: &mut [NodeFacts], cards: &Settled
     requires within { place < length cards.now.elements.items }
     requires few { length cards.now.elements.items < 2 ^ 63 }
     requires grounded { list_all is_grounded cards.now.elements.items ≡ true }
-    requires before { facts.old ≡ map (known (take place cards.now.elements.items) cards.now.initial.entries) names.now.keys }
+    requires before { facts.old ≡ map (known (take place cards.now.elements.items)) names.now.keys }
     requires small { (n : List ℕ) → unsigned_abs (farads_of n (take place cards.now.elements.items)) ≤ 2 ^ 63 * place }
-    ensures after { facts.new ≡ map (known (take (place + 1) cards.now.elements.items) cards.now.initial.entries) names.now.keys }
+    ensures after { facts.new ≡ map (known (take (place + 1) cards.now.elements.items)) names.now.keys }
     ensures small { (n : List ℕ) → unsigned_abs (farads_of n (take (place + 1) cards.now.elements.items)) ≤ 2 ^ 63 * (place + 1) }
 {
     match &cards.elements[place] {
-        Element::Resistor { first, second, .. } => {
-            count_terminal(names, facts, first);
-            count_terminal(names, facts, second);
-        }
         Element::Capacitor {
             plus,
             minus,
@@ -144,34 +133,12 @@ fn note_element(names: &IndexSet<Name>, facts: &mut [NodeFacts], cards: &Settled
             note_source(names, facts, plus, place);
             note_source(names, facts, minus, place);
         }
-        Element::Mos { drain, source, .. } => {
-            count_terminal(names, facts, drain);
-            count_terminal(names, facts, source);
-        }
+        Element::Resistor { .. } => {}
+        Element::Mos { .. } => {}
     }
 }
 
-/// What the initial voltages say of each node.
-fn unnoted(
-    alloc: Global,
-    names: &IndexSet<Name>,
-    initial: &IndexMap<Name, i64>,
-) -> Result<Vec<NodeFacts>, AllocError>
-    ensures { IfOk result (λ facts. facts.items ≡ map (known [] initial.now.entries) names.now.keys) }
-{
-    let mut facts = Vec::with_capacity(alloc, names.len())?;
-    for name in names.as_slice() {
-        facts.push(NodeFacts {
-            source: None,
-            farads: 0,
-            terminals: 0,
-            initial: initial.get(name).copied(),
-        })?;
-    }
-    Ok(facts)
-}
-
-/// What these elements and initial voltages say of each node.
+/// What these elements say of each node.
 fn facts_of(
     alloc: Global,
     names: &IndexSet<Name>,
@@ -179,9 +146,13 @@ fn facts_of(
 ) -> Result<Vec<NodeFacts>, AllocError>
     requires differ { differ names.now.keys ≡ true }
     requires grounded { list_all is_grounded cards.now.elements.items ≡ true }
-    ensures { IfOk result (λ facts. facts.items ≡ map (known cards.now.elements.items cards.now.initial.entries) names.now.keys) }
+    ensures { IfOk result (λ facts. facts.items ≡ map (known cards.now.elements.items) names.now.keys) }
 {
-    let mut facts = unnoted(alloc, names, &cards.initial)?;
+    let nothing = NodeFacts {
+        source: None,
+        farads: 0,
+    };
+    let mut facts = vec![in alloc; nothing; names.len()]?;
     for place in 0..cards.elements.len() {
         note_element(names, &mut facts, cards, place);
     }
@@ -220,11 +191,14 @@ impl NodeTable {
         }
     }
 
-    /// Refuses the first free node that has no initial voltage, where `uic` does not stand for it.
-    pub fn check_initial(&self, uic: bool) -> Result<(), EditRefusal>
-        ensures { (d : DeckValue) → IsTable d self.now.names.keys self.now.facts.items → uic ≡ d.uic → Answers result (no_initial d) }
+    /// Refuses the first free node that has none of these initial voltages, where `uic` does not stand
+    /// for it.
+    pub fn check_initial(&self, uic: bool, initial: &IndexMap<Name, i64>) -> Result<(), EditRefusal>
+        ensures { (d : DeckValue) → IsTable d self.now.names.keys self.now.facts.items → uic ≡ d.uic → initial.now.entries ≡ d.initial → Answers result (no_initial d) }
     {
-        match self.named(facts::first_without_voltage(&self.facts, uic))? {
+        let names = self.names.as_slice();
+        let place = facts::first_without_voltage(&self.facts, names, uic, initial);
+        match self.named(place)? {
             None => Ok(()),
             Some(name) => Err(EditRefusal::NoInitial(name)),
         }
@@ -240,11 +214,15 @@ impl NodeTable {
         }
     }
 
-    /// Refuses the first free node at which more than 1,000 ends stand that carry current.
-    pub fn check_terminals(&self) -> Result<(), EditRefusal>
-        ensures { (d : DeckValue) → IsTable d self.now.names.keys self.now.facts.items → Answers result (many_terminals d) }
+    /// Refuses the first free node at which more than 1,000 ends stand that carry current. What it
+    /// counts is kept no longer than the call.
+    pub fn check_terminals(&self, alloc: Global, cards: &Settled) -> Result<(), EditRefusal>
+        requires table { IsTable (deck_of cards.now) self.now.names.keys self.now.facts.items }
+        requires few { length cards.now.elements.items ≤ 100000 }
+        ensures { Answers result (many_terminals (deck_of cards.now)) }
     {
-        match self.named(facts::first_crowded(&self.facts))? {
+        let counts = terminals::counts_of(alloc, &self.names, &cards.elements)?;
+        match self.named(facts::first_crowded(&self.facts, &counts))? {
             None => Ok(()),
             Some(name) => Err(EditRefusal::Limit(Which::Terminals, name)),
         }

@@ -1,6 +1,7 @@
 pub mod WordLemmas
 pub mod DeviceLemmas
 pub mod SourceLemmas
+pub mod ForeignLemmas
 pub mod BehindLemmas
 pub mod GrainLemmas
 pub mod TableLemmas
@@ -11,4 +12,3 @@ pub mod VoltageLemmas
 pub mod InversionLemmas
 pub mod KeptLemmas
 pub mod SoundLemmas
-pub mod LineLemmas

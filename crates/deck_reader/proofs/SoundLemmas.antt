@@ -1,7 +1,7 @@
 -- Cards without a fault leave only causes of nodes to the whole deck.
-use Rattle.std.proofs.Common.{◌≡◌, ℕ, ℤ, Bool, true, false, ◌&&◌, if◌then◌else◌, List, [], ◌∷◌, Option, Some, None, is_some, is_none, Result, Ok, Err, refl, ap, subst, arith}
+use Rattle.std.proofs.Common.{◌≡◌, ℕ, ℤ, Bool, true, false, ◌&&◌, if◌then◌else◌, List, [], ◌∷◌, Option, Some, None, is_some, is_none, Result, Ok, Err, inl, inr, refl, sym, ◌∙◌, ap, subst, arith}
 use Rattle.std.specs.Prelude.{codes, slice_get}
-use Rattle.std.specs.Option.{option_or, option_map}
+use Rattle.std.specs.Option.{option_or, option_map, option_and_then}
 use Rattle.std.specs.List.{list_all}
 use Rattle.std.specs.Str.{bytes_eq}
 use Rattle.std.proofs.lemmas.Bool.{and_from}
@@ -10,9 +10,13 @@ use Rattle.semantics.specs.declared.element.Element.TheVariants.{Resistor, Capac
 use Rattle.semantics.specs.Part as part
 use Rattle.semantics.specs.Deck.{DeckValue, name_of, look_up, first_some}
 use Rattle.semantics.specs.Valid.{some_grain, short_time, small_volts, has_part}
+use Rattle.deck_lexer.specs.declared.fault.LexFault.{LexFault}
 use Rattle.deck_lexer.specs.Cards.{Card}
+use Rattle.deck_lexer.specs.Reading.{deck_cards, deck_end, deck_fault}
 use Rattle.deck_cards.specs.declared.which.Which.TheVariants.{Elements, Seconds, Grain, Volts}
+use Rattle.deck_cards.specs.declared.edit_refusal.EditRefusal.{EditRefusal}
 use Rattle.deck_cards.specs.declared.edit_refusal.EditRefusal.TheVariants as edit
+use Rattle.deck_cards.specs.Answers.{Refuses}
 use Rattle.deck_cards.specs.Causes.{limit, adding_cause, uncapped, no_initial, value_limit, many_elements, many_nodes, node_farads, many_terminals, whole_cause, deck_cause}
 use Rattle.deck_cards.specs.Settled.{settled}
 use Rattle.deck_cards.proofs.Added.{added}
@@ -27,8 +31,8 @@ use Rattle.deck_reader.specs.Numbers.{◌>>=◌}
 use Rattle.deck_reader.specs.Elements.{element}
 use Rattle.deck_reader.specs.Circuit.{Circuit, elements_of, nodes_of, with_element}
 use Rattle.deck_reader.specs.Told.{nothing, with_table, with_initial, is_options, with_options, with_tran, is_output, with_words}
-use Rattle.deck_reader.specs.Reading.{at, at_line, told_after, missing_part, no_such_model, told_deck, node_cause}
-use Rattle.deck_reader.specs.Sound.{IsSound}
+use Rattle.deck_reader.specs.Reading.{at, at_line, told_after, missing_part, no_such_model, told_deck, node_cause, node_refusal, sound, lexer_refusal, told_in, Reads}
+use Rattle.deck_reader.specs.Sound.{IsSound, Tells}
 use Rattle.deck_cards.proofs.Once.{puts_apart}
 use Rattle.deck_reader.proofs.InversionLemmas.{steps, ok_same}
 use Rattle.deck_reader.proofs.KeptLemmas.{IsFit, AreTables, AreSmall, IsShort, circuit_kept, tables_kept, voltages_kept, grain_kept, span_kept}
@@ -162,3 +166,34 @@ pub told_sound : (cards : List Card) (told : Told) → told_after nothing cards 
 told_sound cards told is =
     let kept = cards_kept nothing cards told nothing_kept is in
     record { once = λ title span. told_once told title span kept; nodes_alone = λ title span at none. nodes_alone told title span kept at none }
+
+-- the same of what a text says
+pub text_sound : (text : List ℕ) (told : Told) (end : ℕ) → told_in text ≡ Ok (told, end) → IsSound told
+unfolding told_in
+text_sound text told end is =
+    let read = steps (told_after nothing (deck_cards text)) (λ t. elim (deck_fault text) [ Some fault ↦ Err (lexer_refusal fault) | None ↦ Ok (t, deck_end text) ]) (told, end) is in
+    told_sound (deck_cards text) told (read.1 ∙ ap Ok (by read.0 (deck_fault text) read.2))
+  where
+    by : (t : Told) (o : Option LexFault) → ◌≡◌ {A = Result (Told × ℕ) DeckRefusal} (elim o [ Some fault ↦ Err (lexer_refusal fault) | None ↦ Ok (t, deck_end text) ]) (Ok (told, end)) → t ≡ told
+    by t None is = ap (λ p. p.0) (ok_same (t, deck_end text) (told, end) is)
+    by t (Some fault) is = absurd (cc)
+
+-- a cause of a node that is told is the first fault of the nodes
+pub told_at : (line : Word → ℕ) (d : DeckValue) (cause : EditRefusal) (refusal : DeckRefusal) → Refuses cause (deck_cause d) → deck_cause d ≡ node_cause d → Tells refusal line cause
+    → Reads {A = DeckValue} (Err refusal) (sound line d)
+unfolding sound
+told_at line d cause refusal caused alone (inl memory) = inl memory
+told_at line d cause refusal caused alone (inr told) =
+    inr (ap (λ (o : Option DeckRefusal). elim o [ Some r ↦ Err r | None ↦ Ok d ]) (ap (option_and_then (node_refusal line)) (sym alone ∙ is cause caused told) ∙ told))
+  where
+    is : (e : EditRefusal) → Refuses e (deck_cause d) → node_refusal line e ≡ Some refusal → deck_cause d ≡ Some e
+    is edit.Memory caused told = absurd (cc)
+    is (edit.NoSuchName n) caused told = caused
+    is (edit.WrongKind n) caused told = caused
+    is (edit.DuplicateName n) caused told = caused
+    is (edit.NoSuchModel n) caused told = caused
+    is (edit.NotGrounded n) caused told = caused
+    is (edit.TwoDrivers n) caused told = caused
+    is (edit.Uncapped n) caused told = caused
+    is (edit.NoInitial n) caused told = caused
+    is (edit.Limit which n) caused told = caused

@@ -101,17 +101,20 @@ whole title end told = elim told.span [
 abbrev pub title_of : List ℕ → List ℕ
 title_of text = take_while (λ b. not (b == line_feed)) text
 
--- the deck, or the fault of the lines, or the first fault as a whole
-unfoldable pub deck_or : List ℕ → Told → Result DeckValue DeckRefusal
-deck_or text told = elim (deck_fault text) [
-  | Some fault ↦ Err (lexer_refusal fault)
-  | None ↦ whole (title_of text) (deck_end text) told
-]
+-- what the cards say, and the line that ends the deck; or the first fault of a card, else that of the lines
+unfoldable pub told_in : List ℕ → Result (Told × ℕ) DeckRefusal
+told_in text = do
+  told ← told_after nothing (deck_cards text)
+  elim (deck_fault text) [
+    | Some fault ↦ Err (lexer_refusal fault)
+    | None ↦ Ok (told, deck_end text)
+  ]
 
+-- the deck, or the first fault
 unfoldable pub deck_in : List ℕ → Result DeckValue DeckRefusal
 deck_in text = do
-  told ← told_after nothing (deck_cards text)
-  deck_or text told
+  told ← told_in text
+  whole (title_of text) told.1 told.0
 
 -- the answer is what the text says, or want of memory with line 0, which may come at any time
 abbrev pub Reads : {A : Type 0} → Result A DeckRefusal → Result A DeckRefusal → Type 0

@@ -1,6 +1,7 @@
 -- What the card of a source says: its points, from the words behind its nodes.
-use Rattle.std.specs.Prelude.{ℕ, ◌+◌, ◌^◌, ℤ, pos, int_le, int_lt, unsigned_abs, List, [], ◌∷◌, map, drop, Bool, not, ◌||◌, true, false, if◌then◌else◌, Option, Some, None, Result, Ok, Err, codes, is_ok}
-use Rattle.std.specs.List.{list_all, zip}
+use Rattle.std.specs.Prelude.{ℕ, ◌+◌, ◌^◌, ℤ, pos, int_le, int_lt, unsigned_abs, List, [], ◌∷◌, map, drop, find, Bool, not, ◌||◌, if◌then◌else◌, Option, Some, None, Result, Ok, Err, codes, is_ok}
+use Rattle.std.specs.List.{before_first, list_all, zip}
+use Rattle.std.specs.Option.{option_map}
 use Rattle.std.specs.Str.{bytes_eq}
 use Rattle.spice_num.specs.declared.units.Unit.TheVariants.{Time, Volt}
 use Rattle.spice_num.specs.Number.{number_of}
@@ -18,14 +19,16 @@ is_pwl word = bytes_eq word (codes "pwl")
 
 -- ---- the form
 
--- the first word before `pwl` that is neither `dc` nor directly behind one, and is no voltage
-unfoldable pub foreign_word : Bool → List Word → Option Word
-foreign_word after_dc [] = None
-foreign_word after_dc (word ∷ words) =
-    if is_pwl word then None
-    else if is_dc word then foreign_word true words
-    else if after_dc || is_ok (number_of Volt word) then foreign_word false words
-    else Some word
+abbrev pub before_pwl : List Word → List Word
+before_pwl words = before_first is_pwl words
+
+-- a word with the one in front of it: it is neither `dc` nor directly behind one, and is no voltage
+abbrev pub is_foreign : Word × Word → Bool
+is_foreign (front, word) = not (is_dc word || (is_dc front || is_ok (number_of Volt word)))
+
+-- the first such word before `pwl`; the first word of all has an empty one in front of it
+unfoldable pub foreign_word : List Word → Option Word
+foreign_word words = option_map (λ pair. pair.1) (find is_foreign (zip ([] ∷ before_pwl words) (before_pwl words)))
 
 -- a value, and the words of at least one point
 abbrev pub with_points : Option Word → List Word → Option Form
@@ -80,7 +83,7 @@ are_rising points = list_all (λ pair. int_lt pair.0.0 pair.1.0) (zip points (dr
 
 -- the points that the words behind the nodes of a source say; their times may be below 0
 unfoldable pub source_points : List Word → Result (List (ℤ × ℤ)) DeckWhy
-source_points words = elim (foreign_word false words) [
+source_points words = elim (foreign_word words) [
   | Some word ↦ Err (Unsupported word)
   | None ↦ elim (form_of words) [
     | None ↦ Err WrongWords

@@ -7,13 +7,12 @@ ghost use Rattle.deck_cards.specs.declared.which.Which.TheVariants.{Nodes};
 ghost use Rattle.deck_reader.specs.declared.why.DeckWhy.TheVariants.{Limit, Memory};
 ghost use Rattle.deck_reader.specs.Numbers.{Gives};
 ghost use Rattle.deck_reader.specs.Circuit.{elements_of, element_fault, with_placed, with_element};
-ghost use Rattle.deck_reader.specs.Indexed.{node_lines};
 
 use crate::index::{driven_again, note_element};
 use crate::placed::Placed;
 use crate::why::DeckWhy;
 use deck_cards::{Which, element_limit, is_grounded, name_of};
-use indexmap::{IndexMap, IndexSet};
+use indexmap::IndexSet;
 use semantics::{Element, Name};
 use std::alloc::{AllocError, Global};
 use std::marker::Model;
@@ -29,8 +28,8 @@ pub struct Circuit {
     names: IndexSet<Name>,
     /// The nodes that sources drive.
     driven: IndexSet<Name>,
-    /// The nodes, each with the line of the first card that has it at an end.
-    nodes: IndexMap<Name, u32>,
+    /// The nodes at the ends of the elements.
+    nodes: IndexSet<Name>,
 }
 
 impl Model for Circuit {
@@ -42,12 +41,12 @@ impl Model for Circuit {
 
     ghost view = { λ c. c.placed };
 
-    ghost invariant = { λ c. IsIndexed c.placed c.names.keys c.driven.keys c.nodes.entries };
+    ghost invariant = { λ c. IsIndexed c.placed c.names.keys c.driven.keys c.nodes.keys };
 }
 
 /// Whether there are more nodes than a deck may have.
-fn is_over(nodes: &IndexMap<Name, u32>) -> bool
-    ensures { result ≡ nat_lt 100000 (length nodes.now.entries) }
+fn is_over(nodes: &IndexSet<Name>) -> bool
+    ensures { result ≡ nat_lt 100000 (length nodes.now.keys) }
 {
     nodes.len() > MOST_THINGS
 }
@@ -64,7 +63,7 @@ fn one_too_many(element: &Element) -> DeckWhy
 
 impl Circuit {
     /// No element.
-    #[tactic(auto, unfolding(crate::specs::Indexed::node_lines))]
+    #[tactic(auto, unfolding(crate::specs::Circuit::nodes_of))]
     pub fn new(alloc: Global) -> Circuit
         ensures { result ≡ [] }
     {
@@ -72,7 +71,7 @@ impl Circuit {
             placed: Placed::new(alloc),
             names: IndexSet::new(alloc),
             driven: IndexSet::new(alloc),
-            nodes: IndexMap::new(alloc),
+            nodes: IndexSet::new(alloc),
         }
     }
 
@@ -128,7 +127,7 @@ impl Circuit {
             mut driven,
             mut nodes,
         } = self;
-        note_element(&mut names, &mut driven, &mut nodes, &element, line)?;
+        note_element(&mut names, &mut driven, &mut nodes, &element)?;
         if is_over(&nodes) {
             return Err(one_too_many(&element));
         }
@@ -158,12 +157,11 @@ impl Circuit {
         &self.placed
     }
 
-    /// The elements, and the nodes, each with the line of the first card that has it at an end.
-    pub fn into_parts(self) -> (Vec<Element>, IndexMap<Name, u32>)
-        ensures elements { result.0.items ≡ elements_of self }
-        ensures lines { result.1.entries ≡ node_lines self }
+    /// The elements without their lines.
+    pub fn into_elements(self) -> Vec<Element>
+        ensures { result.items ≡ elements_of self }
     {
-        let Circuit { placed, nodes, .. } = self;
-        (placed.into_elements(), nodes)
+        let Circuit { placed, .. } = self;
+        placed.into_elements()
     }
 }

@@ -2,6 +2,7 @@
 #![tactic(auto)]
 
 mod capacitor;
+mod cards;
 mod circuit;
 mod device;
 mod element;

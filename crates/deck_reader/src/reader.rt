@@ -1,54 +1,14 @@
 //! The reader of a whole text.
 
-ghost use Rattle.std.specs.Prelude.{◌≡◌, ◌<◌, ◌^◌, length, IfOk, Err, IfErr};
-ghost use Rattle.deck_reader.specs.Told.{nothing, with_words};
-ghost use Rattle.deck_reader.specs.Reading.{Reads, at_line, told_after, lexer_refusal, title_of, deck_or, deck_in};
-ghost use Rattle.deck_reader.specs.Sound.{IsSound};
+ghost use Rattle.std.specs.Prelude.{◌≡◌, ◌<◌, ◌^◌, length, IfOk};
+ghost use Rattle.deck_reader.specs.Reading.{Reads, title_of, deck_in};
 
-use crate::told::Told;
+use crate::cards::read_cards;
 use crate::whole::whole;
-use crate::why::{DeckRefusal, DeckWhy};
+use crate::why::DeckRefusal;
 use deck_cards::Deck;
-use deck_lexer::{CardLine, LexFault, Lexer, Next};
 use semantics::Title;
 use std::alloc::{AllocError, Global};
-
-/// What one more card makes of what is told, or its first fault at its line.
-fn with_card(told: Told, alloc: Global, card: &CardLine) -> Result<Told, DeckRefusal>
-    ensures { Reads result (at_line card.now.line (with_words told card.now.line card.now.words)) }
-{
-    match told.with_card(alloc, card) {
-        Ok(next) => Ok(next),
-        Err(DeckWhy::Memory) => Err(DeckRefusal {
-            line: 0,
-            why: DeckWhy::Memory,
-        }),
-        Err(why) => Err(DeckRefusal {
-            line: card.line(),
-            why,
-        }),
-    }
-}
-
-/// The refusal of a fault of the lines.
-fn lexer_refusal(fault: LexFault) -> DeckRefusal
-    ensures { result ≡ lexer_refusal fault }
-{
-    match fault {
-        LexFault::NotAscii(line) => DeckRefusal {
-            line,
-            why: DeckWhy::NotAscii,
-        },
-        LexFault::ContinuesNothing(line) => DeckRefusal {
-            line,
-            why: DeckWhy::ContinuesNothing,
-        },
-        LexFault::NoEnd(line) => DeckRefusal {
-            line,
-            why: DeckWhy::NoEnd,
-        },
-    }
-}
 
 /// What stands before the first LF of a text.
 fn first_line(alloc: Global, text: &[u8]) -> Result<Vec<u8>, AllocError>
@@ -74,21 +34,12 @@ fn first_line(alloc: Global, text: &[u8]) -> Result<Vec<u8>, AllocError>
 /// lines. Then come the faults of the whole deck: `NoTran` at the line that ends it, `NoSuchModel` at
 /// that of the device, and `Uncapped`, `NoInitial` and the `Limit` of a node's capacitance and of its
 /// terminals at that of the first card that has the node at an end. `Memory` has line 0.
-#[tactic(auto, unfolding(crate::specs::Reading::deck_in, crate::specs::Reading::deck_or, crate::specs::Reading::told_after))]
+#[tactic(auto, unfolding(crate::specs::Reading::deck_in))]
 pub fn read(alloc: Global, text: &[u8]) -> Result<Deck, DeckRefusal>
     requires { length text.now < 2 ^ 32 }
     ensures { Reads result (deck_in text.now) }
 {
-    let mut lexer = Lexer::of(text);
-    let mut told = Told::new(alloc);
-    loop {
-        match lexer.next(alloc)? {
-            Next::Card(card) => told = with_card(told, alloc, &card)?,
-            Next::Over(Err(fault)) => return Err(lexer_refusal(fault)),
-            Next::Over(Ok(end)) => {
-                let title = Title::of(first_line(alloc, text)?);
-                return whole(alloc, title, end, told);
-            }
-        }
-    }
+    let title = Title::of(first_line(alloc, text)?);
+    let (told, end) = read_cards(alloc, text)?;
+    whole(alloc, text, title, told, end)
 }

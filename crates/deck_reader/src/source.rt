@@ -1,6 +1,6 @@
 //! The voltage of a source, from the words behind its nodes.
 
-ghost use Rattle.std.specs.Prelude.{◌≡◌, ◌<◌, [], false, length, map, pos, int_le, unsigned_abs, IfOk, IsTrue};
+ghost use Rattle.std.specs.Prelude.{◌≡◌, ◌<◌, [], length, map, pos, int_le, unsigned_abs, IfOk, IsTrue};
 ghost use Rattle.std.specs.List.{list_all};
 ghost use Rattle.deck_reader.specs.Numbers.{Gives, GivesItems};
 ghost use Rattle.deck_reader.specs.Words.{are_pairs};
@@ -97,9 +97,9 @@ fn late_wave(alloc: Global) -> Result<Wave, AllocError>
 }
 
 /// The first word before `pwl` that is neither `dc` nor directly behind one, and is no voltage.
-#[tactic(auto, unfolding(crate::specs::Sources::foreign_word))]
+#[tactic(auto, using(crate::proofs::ForeignLemmas::foreign_is), unfolding(crate::proofs::ForeignLemmas::foreign_from))]
 fn foreign_word<'a>(words: &mut Words<'a>) -> Option<Word<'a>>
-    ensures { result ≡ foreign_word false words.old }
+    ensures { result ≡ foreign_word words.old }
 {
     let mut after_dc = false;
     while let Some(word) = words.next() {

@@ -1,10 +1,15 @@
 -- A line at a tick from its start on, and how far its numbers may reach.
 use Rattle.std.specs.Prelude.{ℕ, ◌-◌, ◌*◌, ◌^◌, ◌≤◌, ℤ, pos, ◌+ℤ◌, ◌*ℤ◌, unsigned_abs}
+use Rattle.semantics.specs.declared.fraction.Fraction.{Fraction}
 use Rattle.semantics.specs.declared.line.Line.{Line}
 
 -- the numerator of a line at a tick: each tick adds its rate
 abbrev pub num_at : Line → ℕ → ℤ
 num_at l tick = l.num +ℤ (l.rate *ℤ pos (tick - l.start))
+
+-- its voltage at a tick
+abbrev pub voltage : Line → ℕ → Fraction
+voltage l tick = record { num = num_at l tick; den = l.den }
 
 -- another line, which begins at this tick where the line is then, and goes on at this rate
 abbrev pub turned : Line → ℕ → ℤ → Line

@@ -11,6 +11,8 @@ use Rattle.semantics.specs.declared.element.Element.TheVariants.{Resistor, Capac
 abbrev pub Name : Type 0
 Name = List ℕ
 
+-- its first line; the stop tick in picoseconds; whether a node begins at 0 where no voltage is given; the grain in microvolts;
+-- models and tables by name; the voltages in microvolts that names are given at the beginning; and the elements by their cards
 pub record DeckValue : Type 0 where
   pub title : List ℕ
   pub stop : ℕ

@@ -1,5 +1,5 @@
 -- The lines that the program prints.
-use Rattle.std.specs.Prelude.{ℕ, ℤ, pos, List, [], ◌∷◌, ◌++◌, length, codes}
+use Rattle.std.specs.Prelude.{ℕ, ℤ, pos, List, ◌++◌, length, codes}
 use Rattle.std.specs.List.{flat_map}
 use Rattle.std.specs.Int.{int_div_euclid}
 use Rattle.std.specs.Fmt.{decimal, signed_decimal}
@@ -13,11 +13,13 @@ floor num den = int_div_euclid num (pos den)
 
 -- TICK MICROVOLTS NUM RATE DEN
 unfoldable pub line_text : Line → List ℕ
-line_text l = decimal l.start ++ (32 ∷ (signed_decimal (floor l.num l.den) ++ (32 ∷ (signed_decimal l.num ++ (32 ∷ (signed_decimal l.rate ++ (32 ∷ (decimal l.den ++ (10 ∷ [])))))))))
+line_text l =
+    decimal l.start ++ (codes " " ++ (signed_decimal (floor l.num l.den) ++ (codes " " ++ (signed_decimal l.num
+    ++ (codes " " ++ (signed_decimal l.rate ++ (codes " " ++ (decimal l.den ++ codes "\n"))))))))
 
 -- wave NODE COUNT
 unfoldable pub wave_head : List ℕ → ℕ → List ℕ
-wave_head n count = codes "wave " ++ (n ++ (32 ∷ (decimal count ++ (10 ∷ []))))
+wave_head n count = codes "wave " ++ (n ++ (codes " " ++ (decimal count ++ codes "\n")))
 
 -- that line, and the wave's own
 unfoldable pub wave_text : List ℕ → List Line → List ℕ
@@ -25,7 +27,7 @@ wave_text n lines = wave_head n (length lines) ++ flat_map line_text lines
 
 -- version K
 unfoldable pub version_text : ℕ → List ℕ
-version_text k = codes "version " ++ (decimal k ++ (10 ∷ []))
+version_text k = codes "version " ++ (decimal k ++ codes "\n")
 
 -- without a script: version 0, and the wave of each node
 unfoldable pub default_output : DeckValue → List ℕ

@@ -10,9 +10,9 @@ ghost use Rattle.semantics.specs.Ground.{is_ground};
 
 use crate::text::Text;
 use std::alloc::{AllocError, Global};
+use std::fmt;
 use std::hash::{Hash, Hasher};
 use std::marker::Model;
-use std::{fmt, str};
 
 /// The name of a node, an element or a model, in lower case. A contract sees it as its bytes.
 #[derive(Drop)]
@@ -37,13 +37,8 @@ impl Name {
         requires { IsAscii text.now }
         ensures { IfOk result (λ name. name ≡ map to_ascii_lowercase text.now) }
     {
-        let mut lowered = match str::from_utf8(text) {
-            Ok(ascii) => String::from_str(alloc, ascii)?,
-            Err(_) => unreachable!(),
-        };
-        lowered.make_ascii_lowercase();
         Ok(Name {
-            text: Text::of(alloc, lowered.as_str())?,
+            text: Text::lowered(alloc, text)?,
         })
     }
 

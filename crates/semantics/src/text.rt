@@ -1,6 +1,8 @@
 //! The text of a name.
 
-ghost use Rattle.std.specs.Prelude.{◌≡◌, IfOk};
+ghost use Rattle.std.specs.Prelude.{◌≡◌, map, string_bytes, IfOk};
+ghost use Rattle.std.specs.Char.{to_ascii_lowercase};
+ghost use Rattle.std.specs.Str.{IsAscii};
 
 use std::alloc::{AllocError, Global};
 use std::marker::Model;
@@ -16,6 +18,19 @@ enum Held {
     Short { len: u8, bytes: [u8; MOST] },
     /// On the heap.
     Long(Box<String>),
+}
+
+/// An ASCII text as a string, with its letters lowered.
+fn lowered(alloc: Global, text: &[u8]) -> Result<String, AllocError>
+    requires { IsAscii text.now }
+    ensures { IfOk result (λ string. string_bytes string ≡ map to_ascii_lowercase text.now) }
+{
+    let Ok(ascii) = str::from_utf8(text) else {
+        unreachable!()
+    };
+    let mut string = String::from_str(alloc, ascii)?;
+    string.make_ascii_lowercase();
+    Ok(string)
 }
 
 /// A text. A short one, as that of most names, takes no memory beside the value.
@@ -36,19 +51,21 @@ impl Model for Text {
 }
 
 impl Text {
-    /// An equal text.
-    pub fn of(alloc: Global, text: &str) -> Result<Text, AllocError>
-        ensures { IfOk result (λ held. held ≡ text.now) }
+    /// An ASCII text with its letters lowered.
+    pub fn lowered(alloc: Global, text: &[u8]) -> Result<Text, AllocError>
+        requires { IsAscii text.now }
+        ensures { IfOk result (λ held. held ≡ map to_ascii_lowercase text.now) }
     {
         let len = text.len();
         if len > MOST {
-            let long = Box::new(alloc, String::from_str(alloc, text)?)?;
+            let long = Box::new(alloc, lowered(alloc, text)?)?;
             return Ok(Text {
                 held: Held::Long(long),
             });
         }
         let mut bytes = [0; MOST];
-        bytes[..len].copy_from_slice(text.as_bytes());
+        bytes[..len].copy_from_slice(text);
+        bytes[..len].make_ascii_lowercase();
         Ok(Text {
             held: Held::Short {
                 len: len as u8,

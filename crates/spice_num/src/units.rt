@@ -14,7 +14,7 @@ pub enum Unit {
     Ohm,
     /// Picoamperes.
     Amp,
-    /// Picometers.
+    /// Picometres.
     Length,
     /// Picoamperes per square volt.
     Gain,

@@ -17,13 +17,23 @@ use Rattle.wave_shell.specs.declared.status.Status.TheVariants as status
 
 -- a word that names a deck does not begin with `-`, or is `-` alone
 abbrev pub is_name : List ℕ → Bool
-is_name w = not (starts_with nat_eq w (45 ∷ [])) || bytes_eq w (45 ∷ [])
+is_name w = not (starts_with nat_eq w (codes "-")) || bytes_eq w (codes "-")
 
 -- the deck that the words name: there is one word, and it is a name; None where the words do not fit
 abbrev pub deck_name : List (List ℕ) → Option (List ℕ)
 deck_name [] = None
 deck_name (w ∷ []) = if is_name w then Some w else None
 deck_name (w ∷ v ∷ ws) = None
+
+-- the exit status
+abbrev pub code : Status → ℕ
+code status.Ok = 0
+code status.Memory = 1
+code status.Words = 2
+code status.Deck = 3
+code status.Script = 4
+code status.Read = 5
+code status.Write = 6
 
 -- a status and the text that is written with it
 abbrev pub Answer : Type 0
@@ -34,7 +44,7 @@ said s text = (s, text)
 
 -- deck LINE CAUSE
 unfoldable pub refusal_text : DeckRefusal → List ℕ
-refusal_text r = codes "deck " ++ (decimal r.line ++ (32 ∷ (cause_text r.why ++ (10 ∷ []))))
+refusal_text r = codes "deck " ++ (decimal r.line ++ (codes " " ++ (cause_text r.why ++ codes "\n")))
 
 -- the answer to the bytes of a deck: its waves, or its first fault
 unfoldable pub deck_answer : List ℕ → Answer

@@ -47,12 +47,12 @@ fn say<K: Sink>(sink: &mut K, status: Status, text: &[u8]) -> Status
     }
 }
 
-/// The waves of a deck as text.
+/// The waves of a deck as text. Its events are dropped before the text is made.
 fn waves_text(alloc: Global, deck: &Deck) -> Result<String, AllocError>
     ensures { IfOk result (λ text. string_bytes text ≡ default_output deck.now) }
 {
-    let ran = tick_run(alloc, deck)?;
-    default_output(alloc, deck, &ran.waves)
+    let waves = tick_run(alloc, deck)?.waves;
+    default_output(alloc, deck, &waves)
 }
 
 /// Tells the first fault of a deck.

@@ -1,4 +1,7 @@
-/// How a call of the program ended; its number is the exit status.
+ghost use Rattle.std.specs.Prelude.{◌≡◌};
+ghost use Rattle.wave_shell.specs.Answer.{code};
+
+/// How a call of the program ended.
 #[derive(Clone, Copy, Debug, PartialEq, Eq)]
 pub enum Status {
     /// The waves are written.
@@ -15,4 +18,21 @@ pub enum Status {
     Read,
     /// The output could not be written.
     Write,
+}
+
+impl Status {
+    /// The exit status of the program, from 0 for `Ok` to 6 for `Write`.
+    pub fn code(self) -> u8
+        ensures { result ≡ code self }
+    {
+        match self {
+            Status::Ok => 0,
+            Status::Memory => 1,
+            Status::Words => 2,
+            Status::Deck => 3,
+            Status::Script => 4,
+            Status::Read => 5,
+            Status::Write => 6,
+        }
+    }
 }

@@ -10,4 +10,6 @@ mod elements;
 #[cfg(test)]
 mod runs;
 #[cfg(test)]
-mod texts;
+mod said;
+#[cfg(test)]
+mod words;

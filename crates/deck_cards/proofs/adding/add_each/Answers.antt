@@ -33,8 +33,8 @@ returns-in_err-add-clause-cause c =
     let e = c.in_err-add.field-0.0 in
     let within = subst (λ l. i < length l) c.deref-element-items.ensures.value c.loop-element-test.true in
     let at = c.element-item.is ∙ ap (λ l. get_or l i x) c.deref-element-items.ensures.value in
-    subst (Answers c.from_residual.result) (sym (c.loop-element.invariant.cause ∙ step d es i x within at))
-    (handed_on c.from_residual.result e _ c.from_residual.ensures.1 (refuses_first e _ _ (c.in_err-add.ensures.cause (take i es) c.loop-element.invariant.names c.loop-element.invariant.driven)))
+    subst (Answers c.from_residual-in_err-add.result) (sym (c.loop-element.invariant.cause ∙ step d es i x within at))
+    (handed_on c.from_residual-in_err-add.result e _ c.from_residual-in_err-add.ensures.1 (refuses_first e _ _ (c.in_err-add.ensures.cause (take i es) c.loop-element.invariant.names c.loop-element.invariant.driven)))
 
 pub loop-element-preserved : goal.loop-element-preserved
 loop-element-preserved c =

@@ -1,4 +1,4 @@
-use Rattle.std.proofs.Common.{◌∙◌, [], refl}
+use Rattle.std.proofs.Common.{[], refl}
 use Rattle.std.specs.Option.{option_or}
 use Rattle.deck_cards.specs.Cards.{deck_of}
 use Rattle.deck_cards.specs.Causes.{deck_cause}

@@ -1,4 +1,4 @@
-use Rattle.std.proofs.Common.{◌≡◌, ◌∙◌, ℕ, ◌+◌, ◌*◌, ◌^◌, ◌<◌, ◌≤◌, ℤ, ◌+ℤ◌, unsigned_abs, SFits, to_z, of_z, w64, Bool, true, false, Some, if◌then◌else◌, take, sym, ap, subst, arith, rules}
+use Rattle.std.proofs.Common.{◌≡◌, ◌∙◌, ℕ, ◌*◌, ◌^◌, ◌<◌, ◌≤◌, ℤ, ◌+ℤ◌, unsigned_abs, SFits, to_z, of_z, w64, Bool, true, false, Some, if◌then◌else◌, map, take, sym, ap, subst, arith, rules}
 use Rattle.std.specs.Int.{w128}
 use Rattle.std.specs.Option.{option_or}
 use Rattle.std.specs.Str.{bytes_eq}
@@ -6,7 +6,8 @@ use Rattle.std.proofs.lemmas.Int.{ints, to_z-of_z, fits_signed_from_abs}
 use Rattle.semantics.specs.Valid.{is_grounded}
 use Rattle.deck_cards.specs.declared.facts.NodeFacts.{NodeFacts}
 use Rattle.deck_cards.specs.Facts.{known}
-use Rattle.deck_cards.proofs.Known.{CanHold, known-more, small-more, few_terminals, twice, counted, charged, sourced, not_both, each_passes, every_value}
+use Rattle.deck_cards.proofs.Known.{CanHold, known-more, small-more, untouched, charged, sourced, not_both, each_passes}
+use Rattle.deck_cards.proofs.Named.{twice, every_value}
 use Rattle.deck_cards.proofs.nodes.note_element.Goals as goal
 
 -- ---- what is known of the nodes
@@ -14,26 +15,21 @@ use Rattle.deck_cards.proofs.nodes.note_element.Goals as goal
 pub returns-in-Resistor-clause-after : goal.returns-in-Resistor-clause-after
 returns-in-Resistor-clause-after c =
     let es = c.args.cards.now.elements.items in
-    let initial = c.args.cards.now.initial.entries in
-    known-more es initial c.args.place _ _ c.args.names.now.keys _ c.requires.within (sym c.in-Resistor.is ∙ c.index.ensures)
-    (twice _ c.in-Resistor.first c.in-Resistor.second (λ f. record f { terminals = f.terminals + 1 }) _ _ _ _ _ c.requires.before c.count_terminal.ensures c.count_terminal-in-Resistor.ensures
-    (λ n. counted (bytes_eq n c.in-Resistor.first) (bytes_eq n c.in-Resistor.second) (known (take c.args.place es) initial n)))
+    known-more es c.args.place _ _ c.args.names.now.keys _ c.requires.within (sym c.in-Resistor.is ∙ c.index.ensures)
+    (c.requires.before ∙ (λ i. map (λ n. untouched (known (take c.args.place es) n) i) c.args.names.now.keys))
 
 pub returns-in-Mos-clause-after : goal.returns-in-Mos-clause-after
 returns-in-Mos-clause-after c =
     let es = c.args.cards.now.elements.items in
-    let initial = c.args.cards.now.initial.entries in
-    known-more es initial c.args.place _ _ c.args.names.now.keys _ c.requires.within (sym c.in-Mos.is ∙ c.index.ensures)
-    (twice _ c.in-Mos.drain c.in-Mos.source (λ f. record f { terminals = f.terminals + 1 }) _ _ _ _ _ c.requires.before c.count_terminal-in-Mos.ensures c.count_terminal-in-Mos-2.ensures
-    (λ n. counted (bytes_eq n c.in-Mos.drain) (bytes_eq n c.in-Mos.source) (known (take c.args.place es) initial n)))
+    known-more es c.args.place _ _ c.args.names.now.keys _ c.requires.within (sym c.in-Mos.is ∙ c.index.ensures)
+    (c.requires.before ∙ (λ i. map (λ n. untouched (known (take c.args.place es) n) i) c.args.names.now.keys))
 
 pub returns-in-Source-clause-after : goal.returns-in-Source-clause-after
 returns-in-Source-clause-after c =
     let es = c.args.cards.now.elements.items in
-    let initial = c.args.cards.now.initial.entries in
-    known-more es initial c.args.place _ _ c.args.names.now.keys _ c.requires.within (sym c.in-Source.is ∙ c.index.ensures)
+    known-more es c.args.place _ _ c.args.names.now.keys _ c.requires.within (sym c.in-Source.is ∙ c.index.ensures)
     (twice _ c.in-Source.plus c.in-Source.minus (λ f. record f { source = option_or f.source (Some c.args.place) }) _ _ _ _ _ c.requires.before c.note_source.ensures c.note_source-in-Source.ensures
-    (λ n. sourced (bytes_eq n c.in-Source.plus) (bytes_eq n c.in-Source.minus) c.args.place c.in-Source.wave (known (take c.args.place es) initial n)))
+    (λ n. sourced (bytes_eq n c.in-Source.plus) (bytes_eq n c.in-Source.minus) c.args.place c.in-Source.wave (known (take c.args.place es) n)))
 
 -- a capacitance that was read, and widened
 widened : (x r : ℤ) → SFits w64 x → r ≡ to_z w64 (of_z w64 x) → to_z w128 (of_z w128 r) ≡ x
@@ -45,14 +41,13 @@ widened x r fits is =
 pub returns-in-Capacitor-clause-after : goal.returns-in-Capacitor-clause-after
 returns-in-Capacitor-clause-after c =
     let es = c.args.cards.now.elements.items in
-    let initial = c.args.cards.now.initial.entries in
     let at = sym c.in-Capacitor.is ∙ c.index.ensures in
     let one = subst (λ e. is_grounded e ≡ true) (sym at) (each_passes is_grounded es c.args.place _ c.requires.grounded c.requires.within) in
     let fits : SFits w64 c.in-Capacitor.farads = search rules in
     let same = widened c.in-Capacitor.farads c.from-farads.result fits c.from-farads.ensures in
-    known-more es initial c.args.place _ _ c.args.names.now.keys _ c.requires.within at
+    known-more es c.args.place _ _ c.args.names.now.keys _ c.requires.within at
     (twice _ c.in-Capacitor.plus c.in-Capacitor.minus (λ f. record f { farads = f.farads +ℤ to_z w128 (of_z w128 c.from-farads.result) }) _ _ _ _ _ c.requires.before c.add_farads.ensures c.add_farads-in-Capacitor.ensures
-    (λ n. charged (bytes_eq n c.in-Capacitor.plus) (bytes_eq n c.in-Capacitor.minus) c.in-Capacitor.farads _ (known (take c.args.place es) initial n) same (not_both n c.in-Capacitor.plus c.in-Capacitor.minus one)))
+    (λ n. charged (bytes_eq n c.in-Capacitor.plus) (bytes_eq n c.in-Capacitor.minus) c.in-Capacitor.farads _ (known (take c.args.place es) n) same (not_both n c.in-Capacitor.plus c.in-Capacitor.minus one)))
 
 -- ---- the sums stay small
 
@@ -75,28 +70,6 @@ returns-in-Capacitor-clause-small c =
 
 -- ---- each addition has room
 
-once : (a : Bool) (f : NodeFacts) → f.terminals + 2 < 2 ^ 64 → (if a then record f { terminals = f.terminals + 1 } else f).terminals + 1 < 2 ^ 64
-once true f h = omega arith
-once false f h = omega arith
-
-pub count_terminal-requires-clause-room : goal.count_terminal-requires-clause-room
-count_terminal-requires-clause-room c =
-    every_value (λ f. f.terminals + 1 < 2 ^ 64) _ _ _ c.requires.before (λ n. omega (arith, few_terminals n c.args.cards.now.elements.items c.args.place c.requires.within c.requires.few))
-
-pub count_terminal-requires-in-Resistor-clause-room : goal.count_terminal-requires-in-Resistor-clause-room
-count_terminal-requires-in-Resistor-clause-room c =
-    every_value (λ f. f.terminals + 1 < 2 ^ 64) _ _ _ (c.count_terminal.ensures _ c.requires.before)
-    (λ n. once (bytes_eq n c.in-Resistor.first) _ (few_terminals n c.args.cards.now.elements.items c.args.place c.requires.within c.requires.few))
-
-pub count_terminal-requires-in-Mos-clause-room : goal.count_terminal-requires-in-Mos-clause-room
-count_terminal-requires-in-Mos-clause-room c =
-    every_value (λ f. f.terminals + 1 < 2 ^ 64) _ _ _ c.requires.before (λ n. omega (arith, few_terminals n c.args.cards.now.elements.items c.args.place c.requires.within c.requires.few))
-
-pub count_terminal-requires-in-Mos-2-clause-room : goal.count_terminal-requires-in-Mos-2-clause-room
-count_terminal-requires-in-Mos-2-clause-room c =
-    every_value (λ f. f.terminals + 1 < 2 ^ 64) _ _ _ (c.count_terminal-in-Mos.ensures _ c.requires.before)
-    (λ n. once (bytes_eq n c.in-Mos.drain) _ (few_terminals n c.args.cards.now.elements.items c.args.place c.requires.within c.requires.few))
-
 -- the sum of a front, and one or two capacitors more
 room : (a : Bool) (f : NodeFacts) (x y : ℤ) (place : ℕ) → unsigned_abs f.farads ≤ 2 ^ 63 * place → place < 2 ^ 63 → SFits w64 x → y ≡ x → SFits w128 ((if a then record f { farads = f.farads +ℤ y } else f).farads +ℤ y)
 room true f x y place small few fits same =
@@ -108,12 +81,12 @@ pub add_farads-requires-clause-room : goal.add_farads-requires-clause-room
 add_farads-requires-clause-room c =
     let fits : SFits w64 c.in-Capacitor.farads = search rules in
     let same = widened c.in-Capacitor.farads c.from-farads.result fits c.from-farads.ensures in
-    every_value (λ f. SFits w128 (f.farads +ℤ to_z w128 (of_z w128 c.from-farads.result))) _ _ _ c.requires.before
-    (λ n. room false (known (take c.args.place c.args.cards.now.elements.items) c.args.cards.now.initial.entries n) _ _ c.args.place (c.requires.small n) (omega (arith, c.requires.within, c.requires.few)) fits same)
+    every_value _ (λ f. SFits w128 (f.farads +ℤ to_z w128 (of_z w128 c.from-farads.result))) _ _ c.requires.before
+    (λ n. room false (known (take c.args.place c.args.cards.now.elements.items) n) _ _ c.args.place (c.requires.small n) (omega (arith, c.requires.within, c.requires.few)) fits same)
 
 pub add_farads-requires-in-Capacitor-clause-room : goal.add_farads-requires-in-Capacitor-clause-room
 add_farads-requires-in-Capacitor-clause-room c =
     let fits : SFits w64 c.in-Capacitor.farads = search rules in
     let same = widened c.in-Capacitor.farads c.from-farads.result fits c.from-farads.ensures in
-    every_value (λ f. SFits w128 (f.farads +ℤ to_z w128 (of_z w128 c.from-farads.result))) _ _ _ (c.add_farads.ensures _ c.requires.before)
-    (λ n. room (bytes_eq n c.in-Capacitor.plus) (known (take c.args.place c.args.cards.now.elements.items) c.args.cards.now.initial.entries n) _ _ c.args.place (c.requires.small n) (omega (arith, c.requires.within, c.requires.few)) fits same)
+    every_value _ (λ f. SFits w128 (f.farads +ℤ to_z w128 (of_z w128 c.from-farads.result))) _ _ (c.add_farads.ensures _ c.requires.before)
+    (λ n. room (bytes_eq n c.in-Capacitor.plus) (known (take c.args.place c.args.cards.now.elements.items) n) _ _ c.args.place (c.requires.small n) (omega (arith, c.requires.within, c.requires.few)) fits same)

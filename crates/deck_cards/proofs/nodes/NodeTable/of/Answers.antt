@@ -14,4 +14,4 @@ unfolding nodes
 returns c =
     let names = c.in_ok-names.ensures ∙ ap (λ l. fold with_node [] (flat_map ends_of l)) c.deref.ensures.value in
     let cards = c.args.cards.now in
-    record { names = names; facts = c.in_ok-facts.ensures ∙ ap (map (known cards.elements.items cards.initial.entries)) names }
+    record { names = names; facts = c.in_ok-facts.ensures ∙ ap (map (known cards.elements.items)) names }

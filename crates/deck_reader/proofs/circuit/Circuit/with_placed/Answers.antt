@@ -27,7 +27,7 @@ returns-then-is_over c =
     elim c.one_too_many.ensures [
       | inl memory ↦ inl memory
       | inr is ↦ inr (
-          with_placed-at inside.placed c.args.self c.args.line c.args.element c.note_element.new.nodes.entries inside.nodes.entries c.is_over.result
+          with_placed-at inside.placed c.args.self c.args.line c.args.element c.note_element.new.nodes.keys inside.nodes.keys c.is_over.result
           c.self.view_is c.self.invariant.nodes c.in_ok-note_element.ensures.nodes c.is_over.ensures
           ∙ ap (λ b. if b then Err (Limit Nodes (name_of c.args.element)) else Ok (c.args.self ++ (c.args.line, c.args.element) ∷ [])) c.if-is_over.true
           ∙ ap Err (sym is))
@@ -37,13 +37,13 @@ pub invariant_of-result : goal.invariant_of-result
 invariant_of-result c =
     let inside = c.self.inside in
     let noted = c.in_ok-note_element.ensures in
-    indexed _ _ _ _ _ _ _ _ (indexed_more inside.placed c.args.line c.args.element inside.names.keys inside.driven.keys inside.nodes.entries c.self.invariant)
+    indexed _ _ _ _ _ _ _ _ (indexed_more inside.placed c.args.line c.args.element inside.names.keys inside.driven.keys inside.nodes.keys c.self.invariant)
     c.in_ok-with.ensures noted.names noted.driven noted.nodes
 
 pub returns : goal.returns
 returns c =
     let inside = c.self.inside in
-    with_placed-at inside.placed c.args.self c.args.line c.args.element c.note_element.new.nodes.entries inside.nodes.entries c.is_over.result
+    with_placed-at inside.placed c.args.self c.args.line c.args.element c.note_element.new.nodes.keys inside.nodes.keys c.is_over.result
     c.self.view_is c.self.invariant.nodes c.in_ok-note_element.ensures.nodes c.is_over.ensures
     ∙ ap (λ b. if b then Err (Limit Nodes (name_of c.args.element)) else Ok (c.args.self ++ (c.args.line, c.args.element) ∷ [])) c.if-is_over.false
     ∙ ap Ok (ap (λ l. l ++ (c.args.line, c.args.element) ∷ []) (sym c.self.view_is) ∙ sym c.in_ok-with.ensures)

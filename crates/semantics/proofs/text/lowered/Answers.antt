@@ -1,0 +1,6 @@
+-- An ASCII text is UTF-8.
+use Rattle.std.proofs.lemmas.Str.{IsUtf8-from_ascii}
+use Rattle.semantics.proofs.text.lowered.Goals as goal
+
+pub unreachable-requires : goal.unreachable-requires
+unreachable-requires c = c.in_default.ensures.cases.0 (IsUtf8-from_ascii c.args.text.now c.requires)
