@@ -3,3 +3,8 @@ pub mod Nodes
 pub mod Limits
 pub mod Steps
 pub mod Waves
+pub mod Free
+pub mod Products
+pub mod Levels
+pub mod Flows
+pub mod Neighbours

@@ -11,3 +11,9 @@ pub mod Event
 pub mod Points
 pub mod Valid
 pub mod Text
+pub mod Neighbours
+pub mod Record
+pub mod RecordWave
+pub mod Edit
+pub mod Pending
+pub mod Stale
