@@ -1,0 +1,13 @@
+pub mod Faults
+pub mod Lines
+pub mod Unique
+pub mod Edits
+pub mod Damage
+pub mod Pending
+pub mod Sound
+pub mod Waves
+pub mod Stale
+pub mod Windows
+pub mod Numbers
+pub mod Touched
+pub mod Progress
