@@ -8,8 +8,9 @@ use Rattle.std.proofs.lemmas.Bool.{and_parts, leb-true, le-leb, lt-leb}
 use Rattle.std.proofs.lemmas.Bool.Decides.{leb_tells}
 use Rattle.std.proofs.lemmas.List.Sums.{sum_by-cons}
 use Rattle.std.proofs.lemmas.List.FromFn.{length-map-range_with_len, get_or-map-range_with_len}
-use Rattle.std.proofs.Math.Nat.{mul-suc, mul_assoc}
-use borrow.Author.Differences.{up, down, same_in, abs_is, product_is, true_is_le, false_is_le}
+use Rattle.std.proofs.Math.Nat.{mul-suc}
+use borrow.Author.Differences.{up, down, abs_is, product_is, true_is_le, false_is_le}
+use Rattle.semantics.proofs.Products.{times_times}
 use Rattle.semantics.specs.Grid.{cell, threshold, uniform}
 use Rattle.semantics.specs.Valid.{some_grain, small_volts, rising, is_grid}
 
@@ -46,13 +47,6 @@ le_like a b c d e = elim (leb_tells (up a + down b) (up b + down a)) [
 spread : (u b w i c m : ℕ) → u + 2 * b ≡ w + (2 * i + c) → u * m + 2 * (b * m) ≡ w * m + (2 * (i * m) + c * m)
 spread u b w i c zero e = omega arith
 spread u b w i c (suc m) e = omega (arith, spread u b w i c m e, mul-suc u m, mul-suc b m, mul-suc w m, mul-suc i m, mul-suc c m)
-
-pub times_times : (t : ℤ) (h d : ℕ) → (t *ℤ pos h) *ℤ pos d ≡ t *ℤ pos (h * d)
-times_times t h d =
-    let up_is : up (t *ℤ pos h) ≡ up t * h = omega (arith, product_is t (pos h)) in
-    let down_is : down (t *ℤ pos h) ≡ down t * h = omega (arith, product_is t (pos h)) in
-    same_in ((t *ℤ pos h) *ℤ pos d) (t *ℤ pos (h * d))
-    (omega (arith, product_is (t *ℤ pos h) (pos d), product_is t (pos (h * d)), ap (λ n. n * d) up_is ∙ mul_assoc (up t) h d, ap (λ n. n * d) down_is ∙ mul_assoc (down t) h d))
 
 shifted : (t b num : ℤ) (half i m : ℕ) → up t + 2 * half ≡ down t + (2 * i + 1) → up b + half ≡ down b + (i + 1) → 0 < m → int_le (t *ℤ pos m) num ≡ int_le b (int_div_euclid (num +ℤ pos m) (pos (2 * m)))
 shifted t b num half i m t_is b_is m0 =

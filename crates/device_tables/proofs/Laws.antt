@@ -8,7 +8,7 @@ use Rattle.std.proofs.lemmas.Bool.{and_from, and_parts, le-leb, leb-true, both_w
 use Rattle.std.proofs.lemmas.Bool.Decides.{leb_tells}
 use Rattle.std.proofs.lemmas.List.Sums.{sum_by-le-sum_by, count_by-le-length, prefix_len_passes, prefix_len_stops, prefix_len-le-length}
 use Rattle.std.proofs.lemmas.List.FromFn.{length-map-range_with_len}
-use Rattle.std.proofs.Math.Nat.{mul_comm, mul-suc}
+use Rattle.std.proofs.Math.Nat.{mul-suc}
 use borrow.Author.Differences.{up, down, product_is, abs_is, true_is_le, true_is_lt}
 use Rattle.semantics.specs.declared.fraction.Fraction.{Fraction}
 use Rattle.semantics.specs.Grid.{cell, threshold, uniform}
@@ -17,7 +17,8 @@ use Rattle.device_tables.specs.Ends.{threshold_below, LiesIn}
 use Rattle.device_tables.specs.Kept.{thresholds_of, is_kept}
 use Rattle.device_tables.specs.declared.grid.Thresholds.{Thresholds}
 use Rattle.device_tables.specs.declared.grid.Thresholds.TheVariants.{Uniform, Listed}
-use Rattle.device_tables.proofs.Counts.{count_front, int_le-floor, front_of_rising, times_times, IsGrain, grain_tested, grid_tested}
+use Rattle.semantics.proofs.Products.{other_order}
+use Rattle.device_tables.proofs.Counts.{count_front, int_le-floor, front_of_rising, IsGrain, grain_tested, grid_tested}
 
 -- ---- a uniform grid by place
 
@@ -128,7 +129,7 @@ cancel_le x y d d0 h = elim (leb_tells (up x + down y) (up y + down x)) [
 also_at_most : (x : ℤ) (a b : Fraction) → 0 < a.den → (a.num *ℤ pos b.den) ≤ℤ (b.num *ℤ pos a.den) → int_le (x *ℤ pos a.den) a.num ≡ true → int_le (x *ℤ pos b.den) b.num ≡ true
 also_at_most x a b a0 h e =
     let at_a : (x *ℤ pos a.den) ≤ℤ a.num = omega (arith, ints, e) in
-    let turned : (x *ℤ pos b.den) *ℤ pos a.den ≡ (x *ℤ pos a.den) *ℤ pos b.den = times_times x b.den a.den ∙ ap (λ n. x *ℤ pos n) (mul_comm b.den a.den) ∙ sym (times_times x a.den b.den) in
+    let turned : (x *ℤ pos b.den) *ℤ pos a.den ≡ (x *ℤ pos a.den) *ℤ pos b.den = other_order x b.den a.den in
     let at_b : (x *ℤ pos b.den) ≤ℤ b.num = cancel_le (x *ℤ pos b.den) b.num a.den a0 (rw turned (omega (arith, ints, times_le (x *ℤ pos a.den) a.num b.den at_a, h))) in
     sym (true_is_le (x *ℤ pos b.den) b.num (omega (arith, ints, at_b)))
 

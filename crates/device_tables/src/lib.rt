@@ -7,13 +7,16 @@
 
 mod floor;
 mod grid;
+mod level;
 mod ohmic;
+mod ratio;
 mod refusal;
 mod table;
 
 pub use grid::Grid;
 pub use ohmic::resistor;
 pub use refusal::TableRefusal;
+pub use semantics::Channel;
 pub use table::Table;
 
 #[cfg(test)]
