@@ -2,28 +2,20 @@
 use Rattle.std.proofs.Common.{◌≡◌, ℕ, suc, ◌+◌, ◌-◌, ◌*◌, ◌^◌, ◌≤◌, ℤ, pos, negsuc, ◌+ℤ◌, ◌-ℤ◌, ◌*ℤ◌, unsigned_abs, le_refl, refl, sym, ap, ◌∙◌, arith}
 use Rattle.std.proofs.lemmas.Int.{ints, unsigned_abs-mul}
 use Rattle.std.proofs.lemmas.Nat.{mul-le}
-use Rattle.std.proofs.Math.Nat.{mul_comm, mul-pos}
+use Rattle.std.proofs.Math.Nat.{mul-pos}
 use Rattle.std.specs.Prelude.{neg_ℤ}
-use borrow.Author.Differences.{up, down, product_is, sum_is_lem, abs_is}
+use borrow.Author.Differences.{product_is, sum_is_lem, abs_is}
 use Rattle.semantics.specs.declared.line.Line.{Line}
 use Rattle.semantics.specs.Grid.{difference}
 use Rattle.node_ramps.specs.Lines.{num_at, voltage, InBounds}
 use Rattle.node_ramps.proofs.Sums.{same_line}
-use Rattle.device_tables.proofs.Counts.{times_times}
+use Rattle.semantics.proofs.Products.{times_difference, other_order}
 use Rattle.crossing.specs.Gaps.{slope, after, IsSmall}
 
 -- ---- sums times a number
 
 pub times_sum : (x y : ℤ) (n : ℕ) → (x +ℤ y) *ℤ pos n ≡ (x *ℤ pos n) +ℤ (y *ℤ pos n)
 times_sum x y n = omega (arith, ints, product_is (x +ℤ y) (pos n), product_is x (pos n), product_is y (pos n), ap (λ m. m * n) (sum_is_lem x y))
-
-times_difference : (x y : ℤ) (n : ℕ) → (x -ℤ y) *ℤ pos n ≡ (x *ℤ pos n) -ℤ (y *ℤ pos n)
-times_difference x y n =
-    let parts : up (x -ℤ y) + (down x + up y) ≡ down (x -ℤ y) + (up x + down y) = omega (arith, ints) in
-    omega (arith, ints, product_is (x -ℤ y) (pos n), product_is x (pos n), product_is y (pos n), ap (λ m. m * n) parts)
-
-other_order : (z : ℤ) (m n : ℕ) → (z *ℤ pos m) *ℤ pos n ≡ (z *ℤ pos n) *ℤ pos m
-other_order z m n = times_times z m n ∙ ap (λ k. z *ℤ pos k) (mul_comm m n) ∙ sym (times_times z n m)
 
 sums_moved : (x y p q : ℤ) (a b k : ℕ) → ((x +ℤ (p *ℤ pos k)) *ℤ pos b) -ℤ ((y +ℤ (q *ℤ pos k)) *ℤ pos a) ≡ ((x *ℤ pos b) -ℤ (y *ℤ pos a)) +ℤ (((p *ℤ pos b) -ℤ (q *ℤ pos a)) *ℤ pos k)
 sums_moved x y p q a b k =

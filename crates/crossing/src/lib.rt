@@ -4,7 +4,7 @@
 mod gap;
 mod search;
 
-pub use search::{least_cross, next_cross};
+pub use search::{cell_now, least_cross, next_cross};
 
 #[cfg(test)]
 mod tests;

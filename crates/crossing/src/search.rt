@@ -6,6 +6,15 @@ use crate::gap::Gap;
 use device_tables::Grid;
 use semantics::Line;
 
+/// The cell of `a` minus `b` at `now`. Both lines start at or before it, and are in bounds up to it.
+pub fn cell_now(a: &Line, b: &Line, grid: &Grid, now: u64) -> u32
+    requires a { InBounds a.now now }
+    requires b { InBounds b.now now }
+    ensures { result ≡ cell_at grid.now a.now b.now now }
+{
+    Gap::at(a, b, now).cell(grid)
+}
+
 /// The least tick after `now` and up to `end` at which the cell of `a` minus `b` is not the one at `now`, `None` exactly
 /// where there is none. Both lines start at or before `now`. From its start to `end` each is in bounds: its denominator
 /// is from 1 to 10^12, its numerator at both of these ticks at most 1.01 · 10^25 in size, and its rate at most 10^18.
@@ -19,7 +28,7 @@ pub fn least_cross(a: &Line, b: &Line, grid: &Grid, now: u64, end: u64) -> Optio
     requires b_in_bounds { InBounds b.now end }
     ensures { IsLeastCrossing grid.now a.now b.now now end result }
 {
-    let cell = Gap::at(a, b, now).cell(grid);
+    let cell = cell_now(a, b, grid, now);
     next_cross(a, b, grid, cell, now, end)
 }
 

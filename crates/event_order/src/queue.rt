@@ -52,6 +52,16 @@ impl Queue {
         }
     }
 
+    /// The tick that a device waits for; None where it waits for none.
+    pub fn tick(&self, device: u32) -> Option<u64>
+        ensures { result ≡ map.get self.now device }
+    {
+        match self.near.tick(device) {
+            Some(tick) => Some(tick),
+            None => self.far.tick(device),
+        }
+    }
+
     /// Lets a device wait for a tick. It must not wait yet. After an error the queue is as it was.
     pub fn put(&mut self, tick: u64, device: u32) -> Result<(), AllocError>
         requires absent { map.get self.old device ≡ None }

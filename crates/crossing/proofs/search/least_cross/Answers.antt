@@ -1,10 +1,9 @@
--- The cell in which the gap begins is that of the lines at now.
-use Rattle.std.proofs.Common.{◌≡◌, ◌+◌, add-zero, ap, ◌∙◌}
-use Rattle.semantics.specs.Grid.{cell}
-use Rattle.crossing.specs.Crossing.{cell_at}
+-- Both lines are in bounds now, since they are up to the end.
+use Rattle.crossing.proofs.Straight.{in_bounds_before}
 use Rattle.crossing.proofs.search.least_cross.Goals as goal
 
-pub next_cross-requires-clause-cell : goal.next_cross-requires-clause-cell
-next_cross-requires-clause-cell c =
-    let here : c.args.now + 0 ≡ c.args.now = add-zero c.args.now in
-    c.cell-cell.ensures.cell_is ∙ ap (cell c.args.grid.now) (c.at.ensures.line 0) ∙ ap (cell_at c.args.grid.now c.args.a.now c.args.b.now) here
+pub cell_now-cell-requires-clause-a : goal.cell_now-cell-requires-clause-a
+cell_now-cell-requires-clause-a c = in_bounds_before c.args.a.now c.args.now c.args.end c.requires.a_started c.requires.order c.requires.a_in_bounds
+
+pub cell_now-cell-requires-clause-b : goal.cell_now-cell-requires-clause-b
+cell_now-cell-requires-clause-b c = in_bounds_before c.args.b.now c.args.now c.args.end c.requires.b_started c.requires.order c.requires.b_in_bounds
