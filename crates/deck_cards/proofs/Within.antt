@@ -11,7 +11,7 @@ use Rattle.semantics.specs.Valid.{small_volts, small_vto, some_gain, some_ohms, 
 use Rattle.deck_cards.specs.declared.which.Which.{Which}
 use Rattle.deck_cards.specs.declared.which.Which.TheVariants.{Volts, Seconds, Gain, Amps}
 use Rattle.deck_cards.specs.Causes.{limit, outside, limited, point_limit, part_limit, element_limit}
-use Rattle.deck_cards.proofs.Firsts.{first_some-cons, none-or, or_none}
+use Rattle.deck_cards.proofs.Firsts.{first_some-cons, none-or}
 use Rattle.deck_cards.proofs.Named.{and_both}
 
 pub limit_none : (b : Bool) (w : Which) (n : List ℕ) → b ≡ true → limit b w n ≡ None
@@ -80,11 +80,3 @@ part_none (part.Listed gate drain amps) h =
 -- no value of a name is outside its limit
 pub limited_none : (n : List ℕ) (o : Option Which) → o ≡ None → limited n o ≡ None
 limited_none n o h = ap (limited n) h
-
--- a table has no threshold outside its limit
-pub table_limit : (gate drain amps : List ℤ) → is_part (part.Listed gate drain amps) ≡ true → part_limit (part.Listed gate drain amps) ≡ outside (list_all small_amps amps) Amps
-unfolding part_limit
-table_limit gate drain amps valid =
-    let a = and_both (is_grid gate) _ valid in
-    let b = and_both (is_grid drain) _ a.1 in
-    (λ i. option_or (outside (small_grid gate a.0 i && small_grid drain b.0 i) Volts) (option_or (outside (list_all small_amps amps) Amps) None)) ∙ or_none (outside (list_all small_amps amps) Amps)

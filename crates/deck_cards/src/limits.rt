@@ -39,6 +39,20 @@ pub fn is_some_metres(metres: i64) -> bool
     1 <= metres && metres <= 1_000_000_000
 }
 
+/// Whether the threshold voltage of a model in microvolts is at most 100 V in size.
+pub fn is_small_vto(vto: i64) -> bool
+    ensures { result ≡ valid.small_vto vto }
+{
+    vto.unsigned_abs() <= 100_000_000
+}
+
+/// Whether the gain of a model in picoamperes per square volt is 0 to 100 mA per square volt.
+pub fn is_some_gain(kp: i64) -> bool
+    ensures { result ≡ valid.some_gain kp }
+{
+    0 <= kp && kp <= 100_000_000_000
+}
+
 /// Whether a time in picoseconds is at most 10 ms.
 pub fn is_short(tick: u64) -> bool
     ensures { result ≡ valid.short_time tick }

@@ -18,7 +18,7 @@ use crate::which::Which;
 use crate::{elements, limits};
 use device_tables::Table;
 use indexmap::IndexMap;
-use semantics::{Element, Name, Wave};
+use semantics::{Channel, Element, Name, Wave};
 use std::alloc::Global;
 
 /// Refuses a value that is not within its limit.
@@ -38,14 +38,27 @@ fn outside(within: bool, which: Which) -> Option<Which>
     if within { None } else { Some(which) }
 }
 
-/// What the first current of a table outside its limit is of. Its thresholds are in theirs by its
-/// type.
-#[tactic(auto, using(crate::proofs::Within::table_limit), unfolding(crate::specs::Causes::part_limit))]
+/// What the first value of a table outside its limit is of: there is none, by its type.
+#[tactic(auto, using(crate::proofs::Within::part_none))]
 fn table_limit(table: &Table) -> Option<Which>
     ensures value { result ≡ part_limit (part.Listed table.now.gate table.now.drain table.now.amps) }
     ensures valid { IfNone result (is_part (part.Listed table.now.gate table.now.drain table.now.amps) ≡ true) }
 {
-    outside(limits::are_some_amps(table.amps()), Which::Amps)
+    // A table says with its grids that it is valid.
+    let _grid = table.gate();
+    None
+}
+
+/// What the first value of a model outside its limit is of.
+#[tactic(auto, unfolding(crate::specs::Causes::part_limit))]
+fn level_limit(channel: Channel, vto: i64, kp: i64) -> Option<Which>
+    ensures value { result ≡ part_limit (part.Level channel vto kp) }
+    ensures valid { IfNone result (is_part (part.Level channel vto kp) ≡ true) }
+{
+    if !limits::is_small_vto(vto) {
+        return Some(Which::Volts);
+    }
+    outside(limits::is_some_gain(kp), Which::Gain)
 }
 
 /// What the first value of a part outside its limit is of.
@@ -54,6 +67,7 @@ fn part_limit(part: &Part) -> Option<Which>
     ensures valid { IfNone result (is_part (part_of part.now) ≡ true) }
 {
     match part {
+        Part::Level { channel, vto, kp } => level_limit(*channel, *vto, *kp),
         Part::Listed(table) => table_limit(table),
     }
 }
