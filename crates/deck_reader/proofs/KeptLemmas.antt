@@ -26,12 +26,14 @@ use Rattle.deck_reader.specs.declared.why.DeckWhy.{DeckWhy}
 use Rattle.deck_reader.specs.declared.why.DeckWhy.TheVariants.{DuplicateName, DuplicateModel, SecondTran, NotGrounded, TwoDrivers, Limit}
 use Rattle.deck_reader.specs.Words.{Word}
 use Rattle.deck_reader.specs.Tables.{table_of}
+use Rattle.deck_reader.specs.Models.{model_of}
 use Rattle.deck_reader.specs.Dots.{initial, options, tran}
 use Rattle.deck_reader.specs.Circuit.{Circuit, elements_of, nodes_of, element_fault, with_placed, with_element}
-use Rattle.deck_reader.specs.Told.{with_part, with_table, voltage_limit, with_initial, is_grain, grain_after, with_options, is_stop, span_after, with_tran}
+use Rattle.deck_reader.specs.Told.{with_part, with_listed, with_table, with_model, voltage_limit, with_initial, is_grain, grain_after, with_options, is_stop, span_after, with_tran}
 use Rattle.deck_reader.proofs.InversionLemmas.{steps, passes, holds, faultless, ok_same, all_push}
 use Rattle.deck_reader.proofs.CircuitLemmas.{IsClear, is_clear}
 use Rattle.deck_reader.proofs.IndexLemmas.{look_up-names}
+use Rattle.deck_reader.proofs.ModelLemmas.{model_within}
 
 -- ---- elements
 
@@ -118,36 +120,45 @@ circuit_kept circuit line e next fit is =
     subst IsFit (ok_same more next placed.1)
     (fit_more circuit line e fit clear free.0 (leb-false 100000 (length circuit) free.1) (ltb-false 100000 (length (nodes_of more)) placed.0))
 
--- ---- tables
+-- ---- models and tables
 
 -- no name stands twice, and no value is outside its limit
-pub record AreTables (tables : List (Word × Part)) : Type 0 where
-  pub names : differ (map (λ p. p.0) tables) ≡ true
-  pub limits : first_some (λ p. limited p.0 (part_limit p.1)) tables ≡ None
+pub record AreParts (parts : List (Word × Part)) : Type 0 where
+  pub names : differ (map (λ p. p.0) parts) ≡ true
+  pub limits : first_some (λ p. limited p.0 (part_limit p.1)) parts ≡ None
 
-with_part-kept : (tables : List (Word × Part)) (name : Word) (part : Part) (next : List (Word × Part)) → AreTables tables → with_part tables name part ≡ Ok next → AreTables next
-with_part-kept tables name part next fit is =
-    let limit : Word × Part → Option EditRefusal = λ p. limited p.0 (part_limit p.1) in
-    let more = tables ++ (name, part) ∷ [] in
-    let new = passes (is_some (look_up name tables)) (DuplicateModel name) (elim (part_limit part) [ Some which ↦ Err (Limit which name) | None ↦ Ok more ]) next is in
-    let within = by (part_limit part) more new.1 in
-    subst AreTables within.1 (record {
+with_part-kept : (parts : List (Word × Part)) (name : Word) (part : Part) (limit : Option Which) (next : List (Word × Part)) → (limit ≡ None → part_limit part ≡ None)
+    → AreParts parts → with_part parts name part limit ≡ Ok next → AreParts next
+with_part-kept parts name part limit next inside fit is =
+    let cause : Word × Part → Option EditRefusal = λ p. limited p.0 (part_limit p.1) in
+    let more = parts ++ (name, part) ∷ [] in
+    let new = passes (is_some (look_up name parts)) (DuplicateModel name) (elim limit [ Some which ↦ Err (Limit which name) | None ↦ Ok more ]) next is in
+    let within = by limit more new.1 in
+    subst AreParts within.1 (record {
       names =
-          ap differ (map-append (λ (p : Word × Part). p.0) tables ((name, part) ∷ []))
-          ∙ push_differs (map (λ (p : Word × Part). p.0) tables) name fit.names (look_up-names name tables ∙ new.0);
-      limits = first_some-push limit tables (name, part) ∙ (λ i. option_or (fit.limits i) (limited name (within.0 i)));
+          ap differ (map-append (λ (p : Word × Part). p.0) parts ((name, part) ∷ []))
+          ∙ push_differs (map (λ (p : Word × Part). p.0) parts) name fit.names (look_up-names name parts ∙ new.0);
+      limits = first_some-push cause parts (name, part) ∙ (λ i. option_or (fit.limits i) (limited name (inside within.0 i)));
     })
   where
     by : (o : Option Which) (more : List (Word × Part)) → ◌≡◌ {A = Result (List (Word × Part)) DeckWhy} (elim o [ Some which ↦ Err (Limit which name) | None ↦ Ok more ]) (Ok next) → (o ≡ None) × (more ≡ next)
     by (Some which) more h = absurd (cc)
     by None more h = (refl, ok_same more next h)
 
-pub tables_kept : (tables : List (Word × Part)) (words : List Word) (next : List (Word × Part)) → AreTables tables → with_table tables words ≡ Ok next → AreTables next
+pub table_kept : (parts : List (Word × Part)) (words : List Word) (next : List (Word × Part)) → AreParts parts → with_table parts words ≡ Ok next → AreParts next
 unfolding with_table
-tables_kept tables [] next fit is = absurd (cc)
-tables_kept tables (name ∷ words) next fit is =
-    let read = steps (table_of words) (λ table. with_part tables name (Listed table.gate table.drain table.amps)) next is in
-    with_part-kept tables name (Listed read.0.gate read.0.drain read.0.amps) next fit read.2
+table_kept parts [] next fit is = absurd (cc)
+table_kept parts (name ∷ words) next fit is =
+    let read = steps (table_of words) (λ table. with_listed parts name (Listed table.gate table.drain table.amps)) next is in
+    let part = Listed read.0.gate read.0.drain read.0.amps in
+    with_part-kept parts name part (part_limit part) next (λ none. none) fit read.2
+
+pub model_kept : (parts : List (Word × Part)) (words : List Word) (next : List (Word × Part)) → AreParts parts → with_model parts words ≡ Ok next → AreParts next
+unfolding with_model
+model_kept parts [] next fit is = absurd (cc)
+model_kept parts (name ∷ words) next fit is =
+    let read = steps (model_of words) (λ model. with_part parts name model.part model.limit) next is in
+    with_part-kept parts name read.0.part read.0.limit next (model_within words read.0 read.1) fit read.2
 
 -- ---- initial voltages
 

@@ -10,5 +10,6 @@ pub mod PlacedLemmas
 pub mod CircuitLemmas
 pub mod VoltageLemmas
 pub mod InversionLemmas
+pub mod ModelLemmas
 pub mod KeptLemmas
 pub mod SoundLemmas

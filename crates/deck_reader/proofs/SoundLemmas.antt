@@ -30,19 +30,19 @@ use Rattle.deck_reader.specs.Words.{Word}
 use Rattle.deck_reader.specs.Numbers.{◌>>=◌}
 use Rattle.deck_reader.specs.Elements.{element}
 use Rattle.deck_reader.specs.Circuit.{Circuit, elements_of, nodes_of, with_element}
-use Rattle.deck_reader.specs.Told.{nothing, with_table, with_initial, is_options, with_options, with_tran, is_output, with_words}
+use Rattle.deck_reader.specs.Told.{nothing, with_table, with_model, with_initial, is_options, with_options, with_tran, is_output, with_words}
 use Rattle.deck_reader.specs.Reading.{at, at_line, told_after, missing_part, no_such_model, told_deck, node_cause, node_refusal, sound, lexer_refusal, told_in, Reads}
 use Rattle.deck_reader.specs.Sound.{IsSound, Tells}
 use Rattle.deck_cards.proofs.Once.{puts_apart}
 use Rattle.deck_reader.proofs.InversionLemmas.{steps, ok_same}
-use Rattle.deck_reader.proofs.KeptLemmas.{IsFit, AreTables, AreSmall, IsShort, circuit_kept, tables_kept, voltages_kept, grain_kept, span_kept}
+use Rattle.deck_reader.proofs.KeptLemmas.{IsFit, AreParts, AreSmall, IsShort, circuit_kept, table_kept, model_kept, voltages_kept, grain_kept, span_kept}
 
 -- ---- the cards
 
 -- what is told by cards without a fault
 pub record IsKept (told : Told) : Type 0 where
   pub fit : IsFit told.circuit
-  pub tables : AreTables told.tables
+  pub parts : AreParts told.parts
   pub small : AreSmall told.initial
   pub fine : some_grain told.grain ≡ true
   pub short : IsShort told.span
@@ -51,7 +51,7 @@ nothing_kept : IsKept nothing
 unfolding nodes_of
 nothing_kept = record {
   fit = record { names = refl; driven = refl; grounded = refl; limits = refl; few = omega arith; few_nodes = omega arith };
-  tables = record { names = refl; limits = refl };
+  parts = record { names = refl; limits = refl };
   small = record { names = refl; small = refl };
   fine = refl;
   short = tt;
@@ -61,40 +61,45 @@ card_kept : (told : Told) (line : ℕ) (words : List Word) (next : Told) → IsK
 unfolding with_words
 card_kept told line [] next kept is = absurd (cc)
 card_kept told line (word ∷ words) next kept is =
-    by (bytes_eq word (codes ".table")) (bytes_eq word (codes ".ic")) (is_options word) (bytes_eq word (codes ".tran")) (is_output word) is
+    by (bytes_eq word (codes ".table")) (bytes_eq word (codes ".model")) (bytes_eq word (codes ".ic")) (is_options word) (bytes_eq word (codes ".tran")) (is_output word) is
   where
-    by : (table ic options tran output : Bool)
-        → (if table then (with_table told.tables words >>= (λ tables. Ok (record told { tables = tables })))
+    by : (table model ic options tran output : Bool)
+        → (if table then (with_table told.parts words >>= (λ parts. Ok (record told { parts = parts })))
+        else if model then (with_model told.parts words >>= (λ parts. Ok (record told { parts = parts })))
         else if ic then (with_initial told.initial words >>= (λ voltages. Ok (record told { initial = voltages })))
         else if options then (with_options told.grain word words >>= (λ grain. Ok (record told { grain = grain })))
         else if tran then (with_tran told.span word words >>= (λ span. Ok (record told { span = span })))
         else if output then Ok told
         else (element (word ∷ words) >>= (λ card. with_element told.circuit line card >>= (λ circuit. Ok (record told { circuit = circuit }))))) ≡ Ok next
         → IsKept next
-    by true ic options tran output h =
-        let read = steps (with_table told.tables words) (λ tables. Ok (record told { tables = tables })) next h in
-        subst IsKept (ok_same (record told { tables = read.0 }) next read.2)
-        (record { fit = kept.fit; tables = tables_kept told.tables words read.0 kept.tables read.1; small = kept.small; fine = kept.fine; short = kept.short })
-    by false true options tran output h =
+    by true model ic options tran output h =
+        let read = steps (with_table told.parts words) (λ parts. Ok (record told { parts = parts })) next h in
+        subst IsKept (ok_same (record told { parts = read.0 }) next read.2)
+        (record { fit = kept.fit; parts = table_kept told.parts words read.0 kept.parts read.1; small = kept.small; fine = kept.fine; short = kept.short })
+    by false true ic options tran output h =
+        let read = steps (with_model told.parts words) (λ parts. Ok (record told { parts = parts })) next h in
+        subst IsKept (ok_same (record told { parts = read.0 }) next read.2)
+        (record { fit = kept.fit; parts = model_kept told.parts words read.0 kept.parts read.1; small = kept.small; fine = kept.fine; short = kept.short })
+    by false false true options tran output h =
         let read = steps (with_initial told.initial words) (λ voltages. Ok (record told { initial = voltages })) next h in
         subst IsKept (ok_same (record told { initial = read.0 }) next read.2)
-        (record { fit = kept.fit; tables = kept.tables; small = voltages_kept told.initial words read.0 kept.small read.1; fine = kept.fine; short = kept.short })
-    by false false true tran output h =
+        (record { fit = kept.fit; parts = kept.parts; small = voltages_kept told.initial words read.0 kept.small read.1; fine = kept.fine; short = kept.short })
+    by false false false true tran output h =
         let read = steps (with_options told.grain word words) (λ grain. Ok (record told { grain = grain })) next h in
         subst IsKept (ok_same (record told { grain = read.0 }) next read.2)
-        (record { fit = kept.fit; tables = kept.tables; small = kept.small; fine = grain_kept told.grain word words read.0 kept.fine read.1; short = kept.short })
-    by false false false true output h =
+        (record { fit = kept.fit; parts = kept.parts; small = kept.small; fine = grain_kept told.grain word words read.0 kept.fine read.1; short = kept.short })
+    by false false false false true output h =
         let read = steps (with_tran told.span word words) (λ span. Ok (record told { span = span })) next h in
         subst IsKept (ok_same (record told { span = read.0 }) next read.2)
-        (record { fit = kept.fit; tables = kept.tables; small = kept.small; fine = kept.fine; short = span_kept told.span word words read.0 read.1 })
-    by false false false false true h = subst IsKept (ok_same told next h) kept
-    by false false false false false h =
+        (record { fit = kept.fit; parts = kept.parts; small = kept.small; fine = kept.fine; short = span_kept told.span word words read.0 read.1 })
+    by false false false false false true h = subst IsKept (ok_same told next h) kept
+    by false false false false false false h =
         let card = steps (element (word ∷ words)) (λ card. with_element told.circuit line card >>= (λ circuit. Ok (record told { circuit = circuit }))) next h in
         let read = steps (with_element told.circuit line card.0) (λ circuit. Ok (record told { circuit = circuit })) next card.2 in
         subst IsKept (ok_same (record told { circuit = read.0 }) next read.2)
         (record {
           fit = circuit_kept told.circuit line card.0 read.0 kept.fit read.1;
-          tables = kept.tables;
+          parts = kept.parts;
           small = kept.small;
           fine = kept.fine;
           short = kept.short;
@@ -151,7 +156,7 @@ nodes_alone told title span kept is none =
     let counted : option_map (λ e. edit.Limit Elements (name_of e)) (slice_get es 100000) ≡ None = ap (option_map (λ e. edit.Limit Elements (name_of e))) (slice_get_past es 100000 fit.few) in
     let nodes = few_none es [] fit.few_nodes in
     λ i. option_or (adding i) (option_or (uncapped d) (option_or (no_initial d)
-    (option_or (option_or (limit (short i) Seconds (codes ".tran")) (option_or (limit (kept.fine i) Grain (codes ".options")) (option_or (kept.tables.limits i) (option_or (initial i) (option_or (fit.limits i) None)))))
+    (option_or (option_or (limit (short i) Seconds (codes ".tran")) (option_or (limit (kept.fine i) Grain (codes ".options")) (option_or (kept.parts.limits i) (option_or (initial i) (option_or (fit.limits i) None)))))
     (option_or (counted i) (option_or (nodes i) (option_or (node_farads d) (option_or (many_terminals d) None)))))))
 
 -- no part and no initial voltage stands twice
@@ -159,7 +164,7 @@ told_once : (told : Told) (title : List ℕ) (span : ℕ × Bool) → IsKept tol
 unfolding settled told_deck
 told_once told title span kept =
     let d : DeckValue = told_deck title told span in
-    λ i. record d { parts = puts_apart [] told.tables kept.tables.names i; initial = puts_apart [] told.initial kept.small.names i }
+    λ i. record d { parts = puts_apart [] told.parts kept.parts.names i; initial = puts_apart [] told.initial kept.small.names i }
 
 -- what is told by cards without a fault leaves only causes of nodes
 pub told_sound : (cards : List Card) (told : Told) → told_after nothing cards ≡ Ok told → IsSound told

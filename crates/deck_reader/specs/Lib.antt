@@ -5,6 +5,8 @@ pub mod Sources
 pub mod Elements
 pub mod Lines
 pub mod Tables
+pub mod Models
+pub mod Settings
 pub mod Dots
 pub mod Circuit
 pub mod Indexed

@@ -55,20 +55,20 @@ told_deck title told span = record {
   stop = span.0;
   uic = span.1;
   grain = told.grain;
-  parts = told.tables;
+  parts = told.parts;
   initial = told.initial;
   elements = elements_of told.circuit;
 }
 
 -- a device whose part is not defined, at its line
 abbrev pub missing_part : List (Word × Part) → ℕ × Element → Option DeckRefusal
-missing_part tables (line, Mos name drain gate source bulk part len width) = if is_none (look_up part tables) then Some (at line (NoSuchModel part)) else None
-missing_part tables (line, Resistor name first second ohms) = None
-missing_part tables (line, Capacitor name plus minus farads) = None
-missing_part tables (line, Source name plus minus wave) = None
+missing_part parts (line, Mos name drain gate source bulk part len width) = if is_none (look_up part parts) then Some (at line (NoSuchModel part)) else None
+missing_part parts (line, Resistor name first second ohms) = None
+missing_part parts (line, Capacitor name plus minus farads) = None
+missing_part parts (line, Source name plus minus wave) = None
 
 unfoldable pub no_such_model : Told → Option DeckRefusal
-no_such_model told = first_some (missing_part told.tables) told.circuit
+no_such_model told = first_some (missing_part told.parts) told.circuit
 
 -- a cause of a node, at the line that the node has
 abbrev pub node_refusal : (Word → ℕ) → EditRefusal → Option DeckRefusal

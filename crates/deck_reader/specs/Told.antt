@@ -4,6 +4,7 @@ use Rattle.std.specs.Str.{bytes_eq}
 use Rattle.semantics.specs.Part.{Part, Listed}
 use Rattle.semantics.specs.Deck.{look_up}
 use Rattle.semantics.specs.Valid.{small_volts, some_grain, short_time}
+use Rattle.deck_cards.specs.declared.which.Which.{Which}
 use Rattle.deck_cards.specs.declared.which.Which.TheVariants.{Volts, Seconds, Grain}
 use Rattle.deck_cards.specs.Causes.{part_limit}
 use Rattle.deck_cards.specs.Settled.{put}
@@ -15,26 +16,39 @@ use Rattle.deck_reader.specs.Words.{Word}
 use Rattle.deck_reader.specs.Numbers.{◌>>=◌}
 use Rattle.deck_reader.specs.Elements.{element}
 use Rattle.deck_reader.specs.Tables.{table_of}
+use Rattle.deck_reader.specs.Models.{model_of}
 use Rattle.deck_reader.specs.Dots.{initial, options, tran}
 use Rattle.deck_reader.specs.Circuit.{with_element}
 
 -- before the first card: the grain is 50 mV
 abbrev pub nothing : Told
-nothing = record { circuit = []; tables = []; initial = []; grain = 50000; span = None }
+nothing = record { circuit = []; parts = []; initial = []; grain = 50000; span = None }
 
--- .table NAME and its lists: the name is new, and each value in its limit
-abbrev pub with_part : List (Word × Part) → Word → Part → Result (List (Word × Part)) DeckWhy
-with_part tables name part =
-    if is_some (look_up name tables) then Err (DuplicateModel name) else elim (part_limit part) [
+-- these parts and one more: its name is new, and no value of it is outside its limit
+abbrev pub with_part : List (Word × Part) → Word → Part → Option Which → Result (List (Word × Part)) DeckWhy
+with_part parts name part limit =
+    if is_some (look_up name parts) then Err (DuplicateModel name) else elim limit [
       | Some which ↦ Err (Limit which name)
-      | None ↦ Ok (tables ++ (name, part) ∷ [])
+      | None ↦ Ok (parts ++ (name, part) ∷ [])
     ]
 
+-- a table has the limits of a deck
+abbrev pub with_listed : List (Word × Part) → Word → Part → Result (List (Word × Part)) DeckWhy
+with_listed parts name part = with_part parts name part (part_limit part)
+
+-- .table NAME and its lists
 unfoldable pub with_table : List (Word × Part) → List Word → Result (List (Word × Part)) DeckWhy
-with_table tables [] = Err WrongWords
-with_table tables (name ∷ words) = do
+with_table parts [] = Err WrongWords
+with_table parts (name ∷ words) = do
   table ← table_of words
-  with_part tables name (Listed table.gate table.drain table.amps)
+  with_listed parts name (Listed table.gate table.drain table.amps)
+
+-- .model NAME, its channel and its keys
+unfoldable pub with_model : List (Word × Part) → List Word → Result (List (Word × Part)) DeckWhy
+with_model parts [] = Err WrongWords
+with_model parts (name ∷ words) = do
+  model ← model_of words
+  with_part parts name model.part model.limit
 
 -- the first voltage outside its limit; one whose node stands again behind it is not looked at
 unfoldable pub voltage_limit : List (Word × ℤ) → Option DeckWhy
@@ -85,10 +99,15 @@ abbrev pub is_options : Word → Bool
 is_options word = bytes_eq word (codes ".options") || bytes_eq word (codes ".option")
 
 -- what the words of a card make of what is told
-abbrev pub tables_told : Told → List Word → Result Told DeckWhy
-tables_told told words = do
-  tables ← with_table told.tables words
-  Ok (record told { tables = tables })
+abbrev pub table_told : Told → List Word → Result Told DeckWhy
+table_told told words = do
+  parts ← with_table told.parts words
+  Ok (record told { parts = parts })
+
+abbrev pub model_told : Told → List Word → Result Told DeckWhy
+model_told told words = do
+  parts ← with_model told.parts words
+  Ok (record told { parts = parts })
 
 abbrev pub initial_told : Told → List Word → Result Told DeckWhy
 initial_told told words = do
@@ -115,7 +134,8 @@ circuit_told told line words = do
 unfoldable pub with_words : Told → ℕ → List Word → Result Told DeckWhy
 with_words told line [] = Err WrongWords
 with_words told line (word ∷ words) =
-    if bytes_eq word (codes ".table") then tables_told told words
+    if bytes_eq word (codes ".table") then table_told told words
+    else if bytes_eq word (codes ".model") then model_told told words
     else if bytes_eq word (codes ".ic") then initial_told told words
     else if is_options word then grain_told told word words
     else if bytes_eq word (codes ".tran") then span_told told word words

@@ -2,13 +2,13 @@
 
 ghost use Rattle.std.specs.Prelude.{◌≡◌, None};
 ghost use Rattle.deck_reader.specs.Numbers.{Gives};
-ghost use Rattle.deck_reader.specs.Told.{nothing, is_grain, grain_after, with_options, is_stop, span_after, with_tran, is_output, is_options, tables_told, initial_told, grain_told, span_told, circuit_told, with_words};
+ghost use Rattle.deck_reader.specs.Told.{nothing, is_grain, grain_after, with_options, is_stop, span_after, with_tran, is_output, is_options, table_told, model_told, initial_told, grain_told, span_told, circuit_told, with_words};
 
 use crate::circuit::Circuit;
 use crate::element::element;
 use crate::initial::Voltages;
 use crate::options::options;
-use crate::tables::Tables;
+use crate::parts::Parts;
 use crate::tran::{Span, tran};
 use crate::why::DeckWhy;
 use crate::words::{Word, Words};
@@ -21,8 +21,8 @@ use std::alloc::Global;
 pub struct Told {
     /// The elements, each with the line of its card.
     pub circuit: Circuit,
-    /// The tables, each with its name.
-    pub tables: Tables,
+    /// The models and tables, each with its name.
+    pub parts: Parts,
     /// The initial voltages, each with its node; the last one of a node holds.
     pub initial: Voltages,
     /// The grain in microvolts.
@@ -130,7 +130,7 @@ impl Told {
     {
         Told {
             circuit: Circuit::new(alloc),
-            tables: Tables::new(alloc),
+            parts: Parts::new(alloc),
             initial: Voltages::new(alloc),
             grain: 50_000,
             span: None,
@@ -139,10 +139,18 @@ impl Told {
 
     /// What the words behind `.table` make of it.
     fn with_table(self, alloc: Global, words: &mut Words<'_>) -> Result<Told, DeckWhy>
-        ensures { Gives result (tables_told self words.old) }
+        ensures { Gives result (table_told self words.old) }
     {
-        let tables = self.tables.with_table(alloc, words)?;
-        Ok(Told { tables, ..self })
+        let parts = self.parts.with_table(alloc, words)?;
+        Ok(Told { parts, ..self })
+    }
+
+    /// What the words behind `.model` make of it.
+    fn with_model(self, alloc: Global, words: &mut Words<'_>) -> Result<Told, DeckWhy>
+        ensures { Gives result (model_told self words.old) }
+    {
+        let parts = self.parts.with_model(alloc, words)?;
+        Ok(Told { parts, ..self })
     }
 
     /// What the words behind `.ic` make of it.
@@ -197,6 +205,9 @@ impl Told {
         let word = words.next().ok_or(DeckWhy::WrongWords)?;
         if word.is(".table") {
             return self.with_table(alloc, &mut words);
+        }
+        if word.is(".model") {
+            return self.with_model(alloc, &mut words);
         }
         if word.is(".ic") {
             return self.with_initial(alloc, &mut words);

@@ -11,8 +11,8 @@ ghost use Rattle.deck_reader.specs.Sound.{Tells};
 
 use crate::cards::read_cards;
 use crate::index::has_end;
+use crate::parts::Parts;
 use crate::placed::Placed;
-use crate::tables::Tables;
 use crate::told::Told;
 use crate::why::{DeckRefusal, DeckWhy};
 use deck_cards::{Deck, DeckParts, EditRefusal};
@@ -21,15 +21,15 @@ use std::alloc::{AllocError, Global};
 
 /// The element, where it is a device whose part is not defined.
 fn missing_part(
-    tables: &Tables,
+    parts: &Parts,
     line: u32,
     element: &Element,
 ) -> Result<Option<DeckRefusal>, AllocError>
-    ensures { IfOk result (λ found. found ≡ missing_part tables.now (line, element.now)) }
+    ensures { IfOk result (λ found. found ≡ missing_part parts.now (line, element.now)) }
 {
     match element {
         Element::Mos { part, .. } => {
-            if tables.has(part) {
+            if parts.has(part) {
                 return Ok(None);
             }
             Ok(Some(DeckRefusal {
@@ -44,12 +44,12 @@ fn missing_part(
 }
 
 /// The first of these elements that is a device whose part is not defined.
-fn first_missing(placed: &Placed, tables: &Tables) -> Result<Option<DeckRefusal>, AllocError>
-    ensures { IfOk result (λ found. found ≡ first_some (missing_part tables.now) placed.now) }
+fn first_missing(placed: &Placed, parts: &Parts) -> Result<Option<DeckRefusal>, AllocError>
+    ensures { IfOk result (λ found. found ≡ first_some (missing_part parts.now) placed.now) }
 {
     for place in 0..placed.len() {
         let (line, element) = placed.at(place);
-        if let Some(refusal) = missing_part(tables, line, element)? {
+        if let Some(refusal) = missing_part(parts, line, element)? {
             return Ok(Some(refusal));
         }
     }
@@ -125,7 +125,7 @@ fn sound(alloc: Global, text: &[u8], parts: DeckParts) -> Result<Deck, DeckRefus
 fn no_such_model(told: &Told) -> Result<Option<DeckRefusal>, AllocError>
     ensures { IfOk result (λ found. found ≡ no_such_model told.now) }
 {
-    first_missing(told.circuit.placed(), &told.tables)
+    first_missing(told.circuit.placed(), &told.parts)
 }
 
 /// What the deck is made of that is told.
@@ -143,7 +143,7 @@ fn parts_of(
         stop: span.0,
         uic: span.1,
         grain: told.grain,
-        parts: told.tables.into_parts(alloc)?,
+        parts: told.parts.into_parts(alloc)?,
         initial: told.initial.into_pairs(alloc)?,
         elements: told.circuit.into_elements(),
     })

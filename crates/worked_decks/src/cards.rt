@@ -1,10 +1,12 @@
 //! Decks that are made from parts: what they hold, or the first cause why there is none.
 
 use crate::elements::{capacitor, mos, name, resistor, source};
-use Card::{Capacitor, Grain, Initial, Mos, Resistor, Source, Stop, Table as TableCard, Uic};
+use Card::{
+    Capacitor, Grain, Initial, Level, Mos, Resistor, Source, Stop, Table as TableCard, Uic,
+};
 use deck_cards::{Deck, DeckParts, Part};
 use device_tables::{Grid, Table};
-use semantics::{Element, Title};
+use semantics::{Channel, Element, Title};
 use std::alloc::{AllocError, Global};
 use std::fmt::Write;
 use std::test::Fail;
@@ -15,6 +17,8 @@ enum Card {
     Stop(u64),
     Grain(u32),
     Initial(&'static str, i64),
+    /// A p-channel model: its threshold voltage and its gain.
+    Level(&'static str, i64, i64),
     /// A table of one current in all cells.
     Table(&'static str, i64),
     Resistor(&'static str, &'static str, &'static str, i64),
@@ -101,6 +105,15 @@ const CAUSES: &[(&[Card], &str)] = &[
     (
         &[Mos("m1", "0", "0", "0", "sw", 1, 0), TableCard("sw", 0)],
         "Limit(Metres, m1)",
+    ),
+    (&[Level("pch", -100_000_000, 100_000_000_000)], "none"),
+    (&[Level("pch", -100_000_001, 0)], "Limit(Volts, pch)"),
+    (&[Level("pch", 0, -1)], "Limit(Gain, pch)"),
+    (&[Level("pch", 0, 100_000_000_001)], "Limit(Gain, pch)"),
+    (&[Level("pch", 100_000_001, -1)], "Limit(Volts, pch)"),
+    (
+        &[Initial("q", 1_000_000_001), Level("pch", 0, -1)],
+        "Limit(Gain, pch)",
     ),
     (
         &[
@@ -237,7 +250,7 @@ const SWITCH: &[Card] = &[
     Initial("g", 7),
 ];
 
-/// Initial voltages and tables of which a name stands twice.
+/// Initial voltages, models and tables of which a name stands twice.
 const TWICE: &[Card] = &[
     Capacitor("c1", "b", "0", 1),
     Initial("b", 1),
@@ -246,9 +259,11 @@ const TWICE: &[Card] = &[
     TableCard("sw", 1),
     TableCard("sn", 2),
     TableCard("sw", 3),
+    Level("sn", 0, 8),
 ];
 
-/// Cards, a name, and what a deck of them has under it: a node, an element, a voltage and a current.
+/// Cards, a name, and what a deck of them has under it: a node, an element, a voltage, and the current of a table or the
+/// gain of a model.
 const NAMES: &[(&[Card], &str, &str)] = &[
     (SWITCH, "G", "G Some(2) None Some(7) None;"),
     (SWITCH, "gnd", "gnd None None None None;"),
@@ -257,6 +272,7 @@ const NAMES: &[(&[Card], &str, &str)] = &[
     (TWICE, "b", "b Some(0) None Some(3) None;"),
     (TWICE, "q", "q None None Some(2) None;"),
     (TWICE, "sw", "sw None None None Some(3);"),
+    (TWICE, "sn", "sn None None None Some(8);"),
 ];
 
 /// Cards, and what a deck of them says of itself and of its nodes.
@@ -297,6 +313,14 @@ fn take(alloc: Global, parts: &mut DeckParts, card: &Card) -> Result<(), Fail> {
         Stop(tick) => parts.stop = *tick,
         Grain(volts) => parts.grain = *volts,
         Initial(node, volts) => parts.initial.push((name(alloc, node)?, *volts))?,
+        Level(part, vto, kp) => {
+            let level = Part::Level {
+                channel: Channel::P,
+                vto: *vto,
+                kp: *kp,
+            };
+            parts.parts.push((name(alloc, part)?, level))?;
+        }
         TableCard(part, amps) => {
             let listed = Part::Listed(table(alloc, *amps)?);
             parts.parts.push((name(alloc, part)?, listed))?;
@@ -365,9 +389,10 @@ fn numbers_of_things(rt: HostRuntime) -> Result<(), Fail> {
     Ok(())
 }
 
-/// The current of a part in its first cells.
-fn first_amps(part: &Part) -> i64 {
+/// The gain of a model, or the current of a table in its first cells.
+fn gain_or_current(part: &Part) -> i64 {
     match part {
+        Part::Level { kp, .. } => *kp,
         Part::Listed(table) => table.current(0, 0),
     }
 }
@@ -380,7 +405,7 @@ fn found(alloc: Global, deck: &Deck, names: &[&str]) -> Result<String, Fail> {
         let node = deck.node_place(&name);
         let element = deck.place(&name);
         let volts = deck.initial(&name);
-        let amps = deck.part(&name).map(first_amps);
+        let amps = deck.part(&name).map(gain_or_current);
         write!(text, "{word} {node:?} {element:?} {volts:?} {amps:?};")?;
     }
     Ok(text)

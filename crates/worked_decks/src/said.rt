@@ -83,8 +83,8 @@ const SAID: &[(&[&str], &[&str])] = &[
         ],
         &[
             "t 1000 50000 true; ",
-            "m1 d g 0 x sw 100000000 100000000 Some(500000) Some(-1000000) [1, 2, 3, -4, 5, 6]; ",
-            "m2 0 s d 0 sw 1000000000 3000000 Some(500000) Some(-1000000) [1, 2, 3, -4, 5, 6]; ",
+            "m1 d g 0 x sw 100000000 100000000 Some(500000) Some(-1000000) 1; ",
+            "m2 0 s d 0 sw 1000000000 3000000 Some(500000) Some(-1000000) 1; ",
             "c1 0 s 3000; ",
             "c2 d 0 1000; ",
             "c3 g 0 2000; ",
@@ -92,6 +92,26 @@ const SAID: &[(&[&str], &[&str])] = &[
             "d 5000 0; ",
             "g 2000 0; ",
             "s 3000 0; ",
+        ],
+    ),
+    // Models: what is not given, and of equal keys the last, with other keys between them.
+    (
+        &[
+            "t\n",
+            "M1 d d 0 0 bare\n",
+            "M2 d d 0 0 PCH L=1u\n",
+            ".MODEL bare NMOS\n",
+            ".MODEL pch PMOS(VTO=1 KP=1 TOX=x VT0=-0.45 LEVEL=2 KP=80u LEVEL=1.4)\n",
+            "C1 d 0 1f\n",
+            ".TRAN 1p 1n UIC\n",
+            ".END",
+        ],
+        &[
+            "t 1000 50000 true; ",
+            "m1 d d 0 0 bare 100000000 100000000 N 0 20000000; ",
+            "m2 d d 0 0 pch 1000000 100000000 P -450000 80000000; ",
+            "c1 d 0 1000; ",
+            "d 1000 0; ",
         ],
     ),
     // The last initial voltage of a node holds, on a card and behind it.
@@ -192,14 +212,25 @@ pub fn write_element(text: &mut String, element: &Element) -> Result<(), Fail> {
     Ok(())
 }
 
-/// Writes the first threshold of gate and of drain and the currents of a device's part.
-fn write_part(text: &mut String, deck: &Deck, element: &Element) -> Result<(), Fail> {
-    if let Element::Mos { part, .. } = element {
-        if let Some(Part::Listed(table)) = deck.part(part) {
+/// Writes the values of a model, or the first threshold of gate and of drain and the first current of a table.
+fn write_part(text: &mut String, part: &Part) -> Result<(), Fail> {
+    match part {
+        Part::Level { channel, vto, kp } => write!(text, " {channel:?} {vto} {kp}")?,
+        Part::Listed(table) => {
             let gate = table.gate().above(0);
             let drain = table.drain().above(0);
-            let amps = table.amps();
-            write!(text, " {gate:?} {drain:?} {amps:?}")?;
+            let amps = table.current(0, 0);
+            write!(text, " {gate:?} {drain:?} {amps}")?;
+        }
+    }
+    Ok(())
+}
+
+/// Writes the part of a device.
+fn write_part_of(text: &mut String, deck: &Deck, element: &Element) -> Result<(), Fail> {
+    if let Element::Mos { part, .. } = element {
+        if let Some(part) = deck.part(part) {
+            write_part(text, part)?;
         }
     }
     Ok(())
@@ -216,7 +247,7 @@ fn write_deck(text: &mut String, deck: &Deck) -> Result<(), Fail> {
     write!(text, " {stop} {grain} {uic}; ")?;
     for place in 0..deck.len() {
         write_element(text, deck.element(place))?;
-        write_part(text, deck, deck.element(place))?;
+        write_part_of(text, deck, deck.element(place))?;
         text.push_str("; ")?;
     }
     for i in 0..deck.node_count() {

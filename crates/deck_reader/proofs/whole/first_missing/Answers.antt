@@ -8,7 +8,7 @@ use Rattle.deck_reader.proofs.whole.first_missing.Goals as goal
 
 pub returns-in-Some : goal.returns-in-Some
 returns-in-Some c =
-    let f = missing_part c.args.tables.now in
+    let f = missing_part c.args.parts.now in
     let placed = c.args.placed.now in
     let i = c.loop-place.place in
     let x : ℕ × Element = (c.at-line.result.0, c.at-line.result.1.now) in
@@ -18,7 +18,7 @@ returns-in-Some c =
 
 pub loop-place-preserved : goal.loop-place-preserved
 loop-place-preserved c =
-    let f = missing_part c.args.tables.now in
+    let f = missing_part c.args.parts.now in
     let placed = c.args.placed.now in
     let i = c.loop-place.place in
     let x : ℕ × Element = (c.at-line.result.0, c.at-line.result.1.now) in

@@ -3,8 +3,9 @@ ghost use Rattle.semantics.specs.Deck.{look_up};
 ghost use Rattle.semantics.specs.Part as part;
 ghost use Rattle.deck_cards.specs.Part.{part_of};
 ghost use Rattle.deck_reader.specs.Numbers.{Gives};
-ghost use Rattle.deck_reader.specs.Told.{with_table};
+ghost use Rattle.deck_reader.specs.Told.{with_table, with_model};
 
+use crate::model::model_of;
 use crate::table::table_of;
 use crate::why::DeckWhy;
 use crate::words::Words;
@@ -14,13 +15,13 @@ use semantics::Name;
 use std::alloc::{AllocError, Global};
 use std::marker::Model;
 
-/// The tables that the cards of a deck have said so far, each with its name.
+/// The models and tables that the cards of a deck have said so far, each with its name.
 #[derive(Drop)]
-pub struct Tables {
+pub struct Parts {
     parts: IndexMap<Name, Part>,
 }
 
-impl Model for Tables {
+impl Model for Parts {
     ghost use Rattle.std.specs.Prelude.{ℕ, List, map};
     ghost use Rattle.semantics.specs.Part as part;
     ghost use Rattle.deck_cards.specs.Part.{part_of};
@@ -30,36 +31,36 @@ impl Model for Tables {
     ghost view = { λ t. map (λ p. (p.0, part_of p.1)) t.parts.entries };
 }
 
-impl Tables {
-    /// No table.
-    pub fn new(alloc: Global) -> Tables
+impl Parts {
+    /// No part.
+    pub fn new(alloc: Global) -> Parts
         ensures { result ≡ [] }
     {
-        Tables {
+        Parts {
             parts: IndexMap::new(alloc),
         }
     }
 
-    /// Whether a table has this name.
+    /// Whether a part has this name.
     pub fn has(&self, name: &Name) -> bool
         ensures { result ≡ is_some (look_up name.now self.now) }
     {
         self.parts.contains_key(name)
     }
 
-    /// These tables and one more, whose name is new.
-    fn with(self, name: Name, part: Part) -> Result<Tables, AllocError>
+    /// These parts and one more, whose name is new.
+    fn with(self, name: Name, part: Part) -> Result<Parts, AllocError>
         requires { is_some (look_up name self) ≡ false }
-        ensures { IfOk result (λ tables. tables ≡ self ++ (name, part_of part) ∷ []) }
+        ensures { IfOk result (λ parts. parts ≡ self ++ (name, part_of part) ∷ []) }
     {
-        let Tables { mut parts } = self;
+        let Parts { mut parts } = self;
         parts.insert(name, part)?;
-        Ok(Tables { parts })
+        Ok(Parts { parts })
     }
 
-    /// These tables and that of the words behind `.table`.
+    /// These parts and that of the words behind `.table`.
     #[tactic(auto, unfolding(crate::specs::Told::with_table))]
-    pub fn with_table(self, alloc: Global, words: &mut Words<'_>) -> Result<Tables, DeckWhy>
+    pub fn with_table(self, alloc: Global, words: &mut Words<'_>) -> Result<Parts, DeckWhy>
         ensures { Gives result (with_table self words.old) }
     {
         let word = words.next().ok_or(DeckWhy::WrongWords)?;
@@ -74,7 +75,24 @@ impl Tables {
         }
     }
 
-    /// The tables, each with its name.
+    /// These parts and that of the words behind `.model`.
+    #[tactic(auto, unfolding(crate::specs::Told::with_model))]
+    pub fn with_model(self, alloc: Global, words: &mut Words<'_>) -> Result<Parts, DeckWhy>
+        ensures { Gives result (with_model self words.old) }
+    {
+        let word = words.next().ok_or(DeckWhy::WrongWords)?;
+        let model = model_of(alloc, words)?;
+        let name = word.to_name(alloc)?;
+        if self.has(&name) {
+            return Err(DeckWhy::DuplicateModel(name));
+        }
+        match model.limit() {
+            Some(which) => Err(DeckWhy::Limit(which, name)),
+            None => Ok(self.with(name, model.part())?),
+        }
+    }
+
+    /// The parts, each with its name.
     pub fn into_parts(self, alloc: Global) -> Result<Vec<(Name, Part)>, AllocError>
         ensures { IfOk result (λ parts. map (λ p. (p.0, part_of p.1)) parts.items ≡ self) }
     {
