@@ -4,6 +4,7 @@ use mir.Syntax.{w64}
 use Rattle.std.proofs.lemmas.List.{drop_more, get_or-set_same, get_or-set_other}
 use Rattle.std.proofs.lemmas.Int.{ints}
 use Rattle.std.proofs.lemmas.Bool.{cases_eq, eq-eqb, ne_eqb}
+use Rattle.circuit_model.specs.declared.ends.Ends.{Ends}
 use Rattle.circuit_model.specs.Wiring.{DeviceValue, device_current, inflows, inflow, leads_to}
 use Rattle.std.specs.Prelude.{unsigned_abs, ◌*◌, ◌^◌}
 
@@ -15,8 +16,8 @@ added_at rs j i x z inside is = ⊎_elim
     (cases_eq i j)
 
 -- a current that flows through a device brings at most its size to a node
-pub inflow_small : (i : ℕ) (device : DeviceValue) (amps : ℤ) → unsigned_abs amps ≤ 10 ^ 12 → unsigned_abs (inflow i device amps) ≤ 2 * 10 ^ 12
-inflow_small i device amps h = by (leads_to i device.second) (leads_to i device.first)
+pub inflow_small : (i : ℕ) (ends : Ends) (amps : ℤ) → unsigned_abs amps ≤ 10 ^ 12 → unsigned_abs (inflow i ends amps) ≤ 2 * 10 ^ 12
+inflow_small i ends amps h = by (leads_to i ends.second) (leads_to i ends.first)
   where
     by : (b c : Bool) → unsigned_abs ((cond b amps (pos 0)) -ℤ (cond c amps (pos 0))) ≤ 2 * 10 ^ 12
     by true true = omega (arith, ints)
@@ -35,15 +36,15 @@ through false false old between new amps small is then = omega (arith, ints)
 
 -- the first device of those that are left, and the others
 pub inflows_more : (grain i : ℕ) (devices : List DeviceValue) (cells : List (ℕ × ℕ)) (k : ℕ) (device : DeviceValue) → k < length devices → k < length cells → device ≡ get_or devices k device
-    → inflows grain i (drop k devices) (drop k cells) ≡ inflow i device (device_current grain device (get_or cells k (0, 0))) +ℤ inflows grain i (drop (k + 1) devices) (drop (k + 1) cells)
+    → inflows grain i (drop k devices) (drop k cells) ≡ inflow i device.ends (device_current grain device (get_or cells k (0, 0))) +ℤ inflows grain i (drop (k + 1) devices) (drop (k + 1) cells)
 inflows_more grain i devices cells k device inside within is = rw (drop_more devices k device inside, drop_more cells k (0, 0) within, ← is) refl
 
 -- one device more has let its current flow
 pub flowed : (grain i : ℕ) (devices : List DeviceValue) (cells : List (ℕ × ℕ)) (k : ℕ) (device : DeviceValue) (old new amps whole : ℤ) → k < length devices → k < length cells → device ≡ get_or devices k device
-    → amps ≡ device_current grain device (get_or cells k (0, 0)) → new ≡ old +ℤ inflow i device amps → old +ℤ inflows grain i (drop k devices) (drop k cells) ≡ whole
+    → amps ≡ device_current grain device (get_or cells k (0, 0)) → new ≡ old +ℤ inflow i device.ends amps → old +ℤ inflows grain i (drop k devices) (drop k cells) ≡ whole
     → new +ℤ inflows grain i (drop (k + 1) devices) (drop (k + 1) cells) ≡ whole
 flowed grain i devices cells k device old new amps whole inside within is value gained so =
     let rest : ℤ = inflows grain i (drop (k + 1) devices) (drop (k + 1) cells) in
-    let split : inflows grain i (drop k devices) (drop k cells) ≡ inflow i device amps +ℤ rest = rw value (inflows_more grain i devices cells k device inside within is) in
-    let joined : (old +ℤ inflow i device amps) +ℤ rest ≡ old +ℤ (inflow i device amps +ℤ rest) = omega (arith, ints) in
+    let split : inflows grain i (drop k devices) (drop k cells) ≡ inflow i device.ends amps +ℤ rest = rw value (inflows_more grain i devices cells k device inside within is) in
+    let joined : (old +ℤ inflow i device.ends amps) +ℤ rest ≡ old +ℤ (inflow i device.ends amps +ℤ rest) = omega (arith, ints) in
     rw gained (joined ∙ rw (← split) so)

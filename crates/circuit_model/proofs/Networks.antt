@@ -10,9 +10,10 @@ use Rattle.semantics.specs.Event.{event_of, events_to}
 use Rattle.semantics.specs.Run.{run}
 use Rattle.semantics.specs.Valid.{some_grain}
 use Rattle.semantics.proofs.Limits.{Limits, IsVoltage, node_voltage}
-use Rattle.circuit_model.specs.Network.{cells_at}
+use Rattle.circuit_model.specs.Ends.{End, volts_at}
+use Rattle.circuit_model.specs.Network.{cells_at, volts_of}
 use Rattle.circuit_model.specs.Small.{IsSmall}
-use Rattle.circuit_model.specs.Wiring.{DeviceValue, devices_of, device_cells, is_wired, has_cells, has_table, changes}
+use Rattle.circuit_model.specs.Wiring.{DeviceValue, devices_of, device_cells, is_wired, has_cells, changes}
 use Rattle.circuit_model.proofs.Totals.{devices_wired, cells_exist, events_next}
 
 -- ---- the deck
@@ -35,23 +36,23 @@ wired_at count (x ∷ xs) zero device all inside = (and_parts (is_wired count x)
 wired_at count (x ∷ xs) (suc k) device all inside = wired_at count xs k device (and_parts (is_wired count x) (list_all (is_wired count) xs) all).1 (omega arith)
 
 -- a device of a deck is wired
-pub device_wired : (d : DeckValue) (devices : List DeviceValue) (k : ℕ) (device : DeviceValue) → Limits d → devices ≡ devices_of d → k < length devices → device ≡ get_or devices k device → is_wired (length (nodes d)) device ≡ true
-device_wired d devices k device l are inside is =
-    let wired : list_all (is_wired (length (nodes d))) devices ≡ true = rw are (devices_wired d l) in
-    rw is (wired_at (length (nodes d)) devices k device wired inside)
+pub device_wired : (d : DeckValue) (names : List (List ℕ)) (devices : List DeviceValue) (k : ℕ) (device : DeviceValue) → Limits d → devices ≡ devices_of d names → k < length devices → device ≡ get_or devices k device → is_wired (length names) device ≡ true
+device_wired d names devices k device l are inside is =
+    let wired : list_all (is_wired (length names)) devices ≡ true = rw are (devices_wired d names l) in
+    rw is (wired_at (length names) devices k device wired inside)
 
-pub cells_count : (d : DeckValue) (t : ℕ) (cells : List (ℕ × ℕ)) (devices : List DeviceValue) → cells ≡ cells_at d t → devices ≡ devices_of d → length cells ≡ length devices
+pub cells_count : (d : DeckValue) (t : ℕ) (cells : List (ℕ × ℕ)) (devices : List DeviceValue) → cells ≡ cells_at d t → devices ≡ devices_of d (nodes d) → length cells ≡ length devices
 unfolding cells_at
-cells_count d t cells devices are same = rw (are, same) (length-map (devices_of d) (device_cells d.grain (map (run d t) (nodes d))))
+cells_count d t cells devices are same = rw (are, same) (length-map (devices_of d (nodes d)) (device_cells d.grain (volts_at (volts_of d t))))
 
 -- its grids have its cells
-pub device_has : (d : DeckValue) (t k : ℕ) (cells : List (ℕ × ℕ)) (devices : List DeviceValue) (device : DeviceValue) → cells ≡ cells_at d t → devices ≡ devices_of d → k < length devices → device ≡ get_or devices k device
+pub device_has : (d : DeckValue) (t k : ℕ) (cells : List (ℕ × ℕ)) (devices : List DeviceValue) (device : DeviceValue) → cells ≡ cells_at d t → devices ≡ devices_of d (nodes d) → k < length devices → device ≡ get_or devices k device
     → has_cells device (get_or cells k (0, 0)) ≡ true
 unfolding cells_at
 device_has d t k cells devices device are same inside is =
-    let own : get_or cells k (0, 0) ≡ device_cells d.grain (map (run d t) (nodes d)) device =
-    rw (are, ← same, get_or-map (device_cells d.grain (map (run d t) (nodes d))) devices k device (0, 0) inside) (ap (device_cells d.grain (map (run d t) (nodes d))) (sym is)) in
-    rw own (cells_exist d.grain (map (run d t) (nodes d)) device)
+    let own : get_or cells k (0, 0) ≡ device_cells d.grain (volts_at (volts_of d t)) device =
+    rw (are, ← same, get_or-map (device_cells d.grain (volts_at (volts_of d t))) devices k device (0, 0) inside) (ap (device_cells d.grain (volts_at (volts_of d t))) (sym is)) in
+    rw own (cells_exist d.grain (volts_at (volts_of d t)) device)
 
 -- ---- lists that grow
 
@@ -60,29 +61,34 @@ pub cells_entered : (f : DeviceValue → ℕ × ℕ) (devices : List DeviceValue
 cells_entered f devices cells k device now inside within done is value =
     rw (take_more_set cells k now within, done, map_more f devices k device inside, ← is, value) refl
 
-pub events_noted : (grain tick : ℕ) (volts : List Fraction) (devices : List DeviceValue) (old : List (ℕ × ℕ)) (k : ℕ) (device : DeviceValue) (was now : ℕ × ℕ) (before after whole : List Event)
-    → k < length devices → k < length old → device ≡ get_or devices k device → was ≡ get_or old k (0, 0) → now ≡ device_cells grain volts device
-    → after ≡ before ++ event_of tick device.place (Some was) (Some now) → before ++ changes grain tick volts (drop k devices) (drop k old) ≡ whole
-    → after ++ changes grain tick volts (drop (k + 1) devices) (drop (k + 1) old) ≡ whole
-events_noted grain tick volts devices old k device was now before after whole inside within is had has noted so =
-    let rest : List Event = changes grain tick volts (drop (k + 1) devices) (drop (k + 1) old) in
-    let split : changes grain tick volts (drop k devices) (drop k old) ≡ event_of tick device.place (Some was) (Some now) ++ rest =
+-- the cells of one device more
+pub cells_pushed : (f : DeviceValue → ℕ × ℕ) (devices : List DeviceValue) (old new : List (ℕ × ℕ)) (k : ℕ) (device : DeviceValue) (now : ℕ × ℕ) → k < length devices → device ≡ get_or devices k device → now ≡ f device
+    → old ≡ map f (take k devices) → new ≡ old ++ now ∷ [] → new ≡ map f (take (k + 1) devices)
+cells_pushed f devices old new k device now inside is value done grown = rw (grown, done, map_more f devices k device inside, ← is, value) refl
+
+pub events_noted : (grain tick : ℕ) (volt : End → Fraction) (devices : List DeviceValue) (old : List (ℕ × ℕ)) (k : ℕ) (device : DeviceValue) (was now : ℕ × ℕ) (before after whole : List Event)
+    → k < length devices → k < length old → device ≡ get_or devices k device → was ≡ get_or old k (0, 0) → now ≡ device_cells grain volt device
+    → after ≡ before ++ event_of tick device.place (Some was) (Some now) → before ++ changes grain tick volt (drop k devices) (drop k old) ≡ whole
+    → after ++ changes grain tick volt (drop (k + 1) devices) (drop (k + 1) old) ≡ whole
+events_noted grain tick volt devices old k device was now before after whole inside within is had has noted so =
+    let rest : List Event = changes grain tick volt (drop (k + 1) devices) (drop (k + 1) old) in
+    let split : changes grain tick volt (drop k devices) (drop k old) ≡ event_of tick device.place (Some was) (Some now) ++ rest =
     rw (drop_more devices k device inside, drop_more old k (0, 0) within, ← is, ← had, has) refl in
     rw (noted, append_assoc before (event_of tick device.place (Some was) (Some now)) rest, ← split) so
 
 -- at the end every device has its cells
-pub cells_whole : (d : DeckValue) (t : ℕ) (cells : List (ℕ × ℕ)) (devices : List DeviceValue) (volts : List Fraction) (k : ℕ) → volts ≡ map (run d t) (nodes d) → devices ≡ devices_of d → length devices ≤ k
-    → cells ≡ map (device_cells d.grain volts) (take k devices) → cells ≡ cells_at d t
+pub cells_whole : (d : DeckValue) (t : ℕ) (cells : List (ℕ × ℕ)) (devices : List DeviceValue) (volts : List Fraction) (k : ℕ) → volts ≡ map (run d t) (nodes d) → devices ≡ devices_of d (nodes d) → length devices ≤ k
+    → cells ≡ map (device_cells d.grain (volts_at volts)) (take k devices) → cells ≡ cells_at d t
 unfolding cells_at
 cells_whole d t cells devices volts k are same past is = rw (is, take_all k devices past, are, same) refl
 
 -- and every change is noted
-pub events_whole : (d : DeckValue) (t tick : ℕ) (cells : List (ℕ × ℕ)) (devices : List DeviceValue) (volts : List Fraction) (k : ℕ) (before after : List Event) → list_all (has_table d) d.elements ≡ true → tick ≡ suc t
-    → volts ≡ map (run d tick) (nodes d) → devices ≡ devices_of d → cells ≡ cells_at d t → before ≡ events_to d t → length devices ≤ k
-    → after ++ changes d.grain tick volts (drop k devices) (drop k cells) ≡ before ++ changes d.grain tick volts devices cells → after ≡ events_to d tick
-events_whole d t tick cells devices volts k before after tables next are same were past end so =
+pub events_whole : (d : DeckValue) (t tick : ℕ) (cells : List (ℕ × ℕ)) (devices : List DeviceValue) (volts : List Fraction) (k : ℕ) (before after : List Event) → tick ≡ suc t
+    → volts ≡ map (run d tick) (nodes d) → devices ≡ devices_of d (nodes d) → cells ≡ cells_at d t → before ≡ events_to d t → length devices ≤ k
+    → after ++ changes d.grain tick (volts_at volts) (drop k devices) (drop k cells) ≡ before ++ changes d.grain tick (volts_at volts) devices cells → after ≡ events_to d tick
+events_whole d t tick cells devices volts k before after next are same were past end so =
     let then : volts ≡ map (run d (suc t)) (nodes d) = rw next at are in
-    sym (append-nil after) ∙ (rw (drop_all k devices end) at so) ∙ rw (past, next, then, same, were) (events_next d t tables)
+    sym (append-nil after) ∙ (rw (drop_all k devices end) at so) ∙ rw (past, next, then, same, were) (events_next d t)
 
 -- a number written at a place is that of the place, and the others stay
 pub written_done : (f : ℕ → ℤ) (old new : List ℤ) (k : ℕ) (x : ℤ) → new ≡ set old k x → k < length old → x ≡ f k → ((i : ℕ) → i < k → get_or old i (pos 0) ≡ f i) → (i : ℕ) → i < k + 1 → get_or new i (pos 0) ≡ f i

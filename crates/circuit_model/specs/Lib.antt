@@ -1,7 +1,12 @@
 pub mod Carried
+pub mod Circuit
+pub mod Drive
 pub mod Ends
 pub mod Lines
+pub mod Names
+pub mod Near
 pub mod Network
+pub mod Numbers
 pub mod Points
 pub mod Small
 pub mod State

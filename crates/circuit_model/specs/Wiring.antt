@@ -1,5 +1,6 @@
 -- A circuit by numbers: its devices, and what flows through them at given voltages.
 use Rattle.std.specs.Prelude.{ℕ, ◌+◌, ◌*◌, ◌==◌, ◌&&◌, nat_le, Bool, true, false, if◌then◌else◌, ℤ, pos, ◌+ℤ◌, ◌-ℤ◌, List, [], ◌∷◌, ◌++◌, length, Option, Some, None, option_to_list}
+use Rattle.std.specs.Option.{option_map}
 use Rattle.semantics.specs.declared.element.Element.{Element}
 use Rattle.semantics.specs.declared.element.Element.TheVariants.{Resistor, Capacitor, Source, Mos}
 use Rattle.semantics.specs.declared.event.Event.{Event}
@@ -8,69 +9,61 @@ use Rattle.semantics.specs.Deck.{DeckValue, look_up}
 use Rattle.semantics.specs.Device.{resistor_current}
 use Rattle.semantics.specs.Event.{event_of}
 use Rattle.semantics.specs.Grid.{uniform}
-use Rattle.semantics.specs.Part.{Part, Level, Listed, listed_current}
+use Rattle.semantics.specs.Part.{listed_current}
 use Rattle.semantics.specs.Valid.{some_ohms}
 use Rattle.device_tables.specs.Table.{TableValue}
 use Rattle.circuit_model.specs.declared.device.TheConstants.{HALF}
+use Rattle.circuit_model.specs.declared.device.DeviceTable.{DeviceTable}
+use Rattle.circuit_model.specs.declared.device.DeviceTable.TheVariants as tables
 use Rattle.circuit_model.specs.declared.device.Law.{Law}
 use Rattle.circuit_model.specs.declared.device.Law.TheVariants as kept
-use Rattle.circuit_model.specs.Ends.{End, cell_across, end_of, is_inside}
+use Rattle.circuit_model.specs.declared.ends.Ends.{Ends}
+use Rattle.circuit_model.specs.Ends.{End, cell_across, ends_in, is_inside}
+use Rattle.device_tables.specs.Level.{part_table}
 
 -- ---- devices
 
--- what sets the current of a device: a resistance in milliohms, or where its gate leads and its table
+-- what sets the current of a device: a resistance in milliohms, or its table
 pub data DeviceLaw : Type 0 where
   Ohms : ℤ → DeviceLaw
-  Gated : End → TableValue → DeviceLaw
+  Gated : TableValue → DeviceLaw
+
+abbrev pub table_in : DeviceTable → TableValue
+table_in (tables.Listed table) = table.now
+table_in (tables.Level table) = table
 
 abbrev pub law_of : Law → DeviceLaw
 law_of (kept.Ohms ohms) = Ohms ohms
-law_of (kept.Gated gate table) = Gated gate table.now
+law_of (kept.Gated table) = Gated (table_in table)
 
--- a device by its place among the elements, with the ends between which its current flows
+-- a device by its place among the elements, with its ends by number
 pub record DeviceValue : Type 0 where
   pub place : ℕ
-  pub first : End
-  pub second : End
+  pub ends : Ends
   pub law : DeviceLaw
 
-abbrev pub device_between : DeckValue → ℕ → List ℕ → List ℕ → DeviceLaw → DeviceValue
-device_between d place first second law = record { place = place; first = end_of d first; second = end_of d second; law = law }
-
--- the device of a MOS element with this part, where the part is a table
-abbrev pub gated_by : DeckValue → ℕ → List ℕ → List ℕ → List ℕ → Option Part → Option DeviceValue
-gated_by d place drain gate source (Some (Listed gates drains amps)) =
-    Some (device_between d place drain source (Gated (end_of d gate) (record { gate = gates; drain = drains; amps = amps })))
-gated_by d place drain gate source (Some (Level channel vto kp)) = None
-gated_by d place drain gate source None = None
+-- what sets the current of an element; None where it is no device, or its part is not there
+abbrev pub law_at : DeckValue → Element → Option DeviceLaw
+law_at d (Resistor name first second ohms) = Some (Ohms ohms)
+law_at d (Mos name drain gate source bulk part len width) = option_map (λ p. Gated (part_table d.grain p width len)) (look_up part d.parts)
+law_at d (Capacitor name plus minus farads) = None
+law_at d (Source name plus minus wave) = None
 
 -- the device of the element at this place, where it is one
-abbrev pub device_at : DeckValue → ℕ → Element → Option DeviceValue
-device_at d place (Resistor name first second ohms) = Some (device_between d place first second (Ohms ohms))
-device_at d place (Mos name drain gate source bulk part len width) = gated_by d place drain gate source (look_up part d.parts)
-device_at d place (Capacitor name plus minus farads) = None
-device_at d place (Source name plus minus wave) = None
+abbrev pub device_by : List (List ℕ) → ℕ → Element → DeviceLaw → DeviceValue
+device_by names place e law = record { place = place; ends = ends_in names e; law = law }
+
+abbrev pub device_at : DeckValue → List (List ℕ) → ℕ → Element → Option DeviceValue
+device_at d names place e = option_map (device_by names place e) (law_at d e)
 
 -- the devices among elements of which the first has this place
-abbrev pub devices_from : DeckValue → ℕ → List Element → List DeviceValue
-devices_from d place [] = []
-devices_from d place (e ∷ es) = option_to_list (device_at d place e) ++ devices_from d (place + 1) es
+abbrev pub devices_from : DeckValue → List (List ℕ) → ℕ → List Element → List DeviceValue
+devices_from d names place [] = []
+devices_from d names place (e ∷ es) = option_to_list (device_at d names place e) ++ devices_from d names (place + 1) es
 
-unfoldable pub devices_of : DeckValue → List DeviceValue
-devices_of d = devices_from d 0 d.elements
-
--- a part that is there is a table
-abbrev pub is_table : Option Part → Bool
-is_table (Some (Listed gates drains amps)) = true
-is_table (Some (Level channel vto kp)) = false
-is_table None = true
-
--- a MOS device has no level 1 model
-abbrev pub has_table : DeckValue → Element → Bool
-has_table d (Mos name drain gate source bulk part len width) = is_table (look_up part d.parts)
-has_table d (Resistor name first second ohms) = true
-has_table d (Capacitor name plus minus farads) = true
-has_table d (Source name plus minus wave) = true
+-- the devices of a deck, where its nodes have these numbers
+unfoldable pub devices_of : DeckValue → List (List ℕ) → List DeviceValue
+devices_of d names = devices_from d names 0 d.elements
 
 -- ---- cells
 
@@ -78,35 +71,49 @@ has_table d (Source name plus minus wave) = true
 abbrev pub ohmic_grid : ℕ → List ℤ
 ohmic_grid grain = uniform grain HALF
 
-abbrev pub law_cells : ℕ → List Fraction → End → End → DeviceLaw → ℕ × ℕ
-law_cells grain volts first second (Ohms ohms) = (cell_across (ohmic_grid grain) volts first second, 0)
-law_cells grain volts first second (Gated gate table) = (cell_across table.gate volts gate second, cell_across table.drain volts first second)
+abbrev pub law_cells : ℕ → (End → Fraction) → Ends → DeviceLaw → ℕ × ℕ
+law_cells grain volt ends (Ohms ohms) = (cell_across (ohmic_grid grain) volt ends.first ends.second, 0)
+law_cells grain volt ends (Gated table) = (cell_across table.gate volt ends.gate ends.second, cell_across table.drain volt ends.first ends.second)
 
--- the cells of a device at these voltages: a resistor's and 0, or those of gate and drain
-unfoldable pub device_cells : ℕ → List Fraction → DeviceValue → ℕ × ℕ
-device_cells grain volts device = law_cells grain volts device.first device.second device.law
+-- the cells of a device at these voltages of ends: a resistor's and 0, or those of gate and drain
+unfoldable pub device_cells : ℕ → (End → Fraction) → DeviceValue → ℕ × ℕ
+device_cells grain volt device = law_cells grain volt device.ends device.law
 
 abbrev pub law_current : ℕ → DeviceLaw → ℕ × ℕ → ℤ
 law_current grain (Ohms ohms) c = resistor_current grain ohms c.0
-law_current grain (Gated gate table) c = listed_current table.drain table.amps c.0 c.1
+law_current grain (Gated table) c = listed_current table.drain table.amps c.0 c.1
 
 -- what flows through a device in these cells, out of its first end into its second
 unfoldable pub device_current : ℕ → DeviceValue → ℕ × ℕ → ℤ
 device_current grain device c = law_current grain device.law c
 
+-- the table of a device
+abbrev pub table_of : DeviceLaw → Option TableValue
+table_of (Ohms ohms) = None
+table_of (Gated table) = Some table
+
+-- the cells of a device, from those of the gate's axis and of the other
+abbrev pub law_axes : DeviceLaw → ℕ → ℕ → ℕ × ℕ
+law_axes (Ohms ohms) gate drain = (drain, 0)
+law_axes (Gated table) gate drain = (gate, drain)
+
 -- ---- what a device needs
 
-abbrev pub is_lawful : ℕ → DeviceLaw → Bool
-is_lawful count (Ohms ohms) = some_ohms ohms
-is_lawful count (Gated gate table) = is_inside count gate
+abbrev pub is_lawful : DeviceLaw → Bool
+is_lawful (Ohms ohms) = some_ohms ohms
+is_lawful (Gated table) = true
 
--- its ends lead to ground or to nodes below this count, and a resistance is in its limits
+-- the ends lead to ground or to nodes below this count
+abbrev pub are_inside : ℕ → Ends → Bool
+are_inside count ends = is_inside count ends.first && (is_inside count ends.second && is_inside count ends.gate)
+
+-- its ends lead there, and a resistance is in its limits
 abbrev pub is_wired : ℕ → DeviceValue → Bool
-is_wired count device = (is_inside count device.first && is_inside count device.second) && is_lawful count device.law
+is_wired count device = are_inside count device.ends && is_lawful device.law
 
 abbrev pub law_has : DeviceLaw → ℕ × ℕ → Bool
 law_has (Ohms ohms) c = nat_le c.0 (2 * HALF)
-law_has (Gated gate table) c = nat_le c.0 (length table.gate) && nat_le c.1 (length table.drain)
+law_has (Gated table) c = nat_le c.0 (length table.gate) && nat_le c.1 (length table.drain)
 
 -- its grids have these cells
 abbrev pub has_cells : DeviceValue → ℕ × ℕ → Bool
@@ -120,18 +127,18 @@ leads_to i None = false
 leads_to i (Some j) = i == j
 
 -- what flows into node i, of a current out of the first end into the second
-abbrev pub inflow : ℕ → DeviceValue → ℤ → ℤ
-inflow i device amps = (if leads_to i device.second then amps else pos 0) -ℤ (if leads_to i device.first then amps else pos 0)
+abbrev pub inflow : ℕ → Ends → ℤ → ℤ
+inflow i ends amps = (if leads_to i ends.second then amps else pos 0) -ℤ (if leads_to i ends.first then amps else pos 0)
 
 -- what flows into node i, over devices in these cells
 abbrev pub inflows : ℕ → ℕ → List DeviceValue → List (ℕ × ℕ) → ℤ
 inflows grain i [] cells = pos 0
 inflows grain i (device ∷ devices) [] = pos 0
-inflows grain i (device ∷ devices) (c ∷ cells) = inflow i device (device_current grain device c) +ℤ inflows grain i devices cells
+inflows grain i (device ∷ devices) (c ∷ cells) = inflow i device.ends (device_current grain device c) +ℤ inflows grain i devices cells
 
--- the events of devices that were in these cells, at these voltages
-abbrev pub changes : ℕ → ℕ → List Fraction → List DeviceValue → List (ℕ × ℕ) → List Event
-changes grain tick volts [] cells = []
-changes grain tick volts (device ∷ devices) [] = []
-changes grain tick volts (device ∷ devices) (c ∷ cells) =
-    event_of tick device.place (Some c) (Some (device_cells grain volts device)) ++ changes grain tick volts devices cells
+-- the events of devices that were in these cells, at these voltages of ends
+abbrev pub changes : ℕ → ℕ → (End → Fraction) → List DeviceValue → List (ℕ × ℕ) → List Event
+changes grain tick volt [] cells = []
+changes grain tick volt (device ∷ devices) [] = []
+changes grain tick volt (device ∷ devices) (c ∷ cells) =
+    event_of tick device.place (Some c) (Some (device_cells grain volt device)) ++ changes grain tick volt devices cells

@@ -1,24 +1,16 @@
+//! The cell of the voltage between two ends.
+
 ghost use Rattle.std.specs.Prelude.{◌≡◌, ◌≤◌, ◌^◌, length, unsigned_abs, All, IsTrue};
 ghost use Rattle.semantics.specs.Grid.{cell, difference};
-ghost use Rattle.circuit_model.specs.Ends.{cell_across, end_of, is_inside, volts_at};
+ghost use Rattle.circuit_model.specs.Ends.{cell_across, is_inside, volts_at};
 ghost use Rattle.circuit_model.specs.Small.{IsSmall};
 
-use deck_cards::Deck;
+use crate::ends::End;
 use device_tables::Grid;
-use semantics::{Fraction, Name};
-
-/// Where an end of a device leads: to a node by its number, and else to ground.
-pub(crate) type End = Option<usize>;
+use semantics::Fraction;
 
 /// The voltage of ground.
 const NO_VOLTS: Fraction = Fraction { num: 0, den: 1 };
-
-/// Where a name leads.
-pub(crate) fn end_of(deck: &Deck, name: &Name) -> End
-    ensures { result ≡ end_of deck.now name.now }
-{
-    deck.node_place(name)
-}
 
 /// The voltage of an end, where those of the nodes are these.
 fn voltage(volts: &[Fraction], end: End) -> Fraction
@@ -27,7 +19,7 @@ fn voltage(volts: &[Fraction], end: End) -> Fraction
 {
     match end {
         None => NO_VOLTS,
-        Some(node) => volts[node],
+        Some(node) => volts[node as usize],
     }
 }
 
@@ -57,7 +49,7 @@ pub(crate) fn cell_across(grid: &Grid, volts: &[Fraction], high: End, low: End) 
     requires high { IsTrue (is_inside (length volts.now) high) }
     requires low { IsTrue (is_inside (length volts.now) low) }
     requires small { All IsSmall volts.now }
-    ensures { result ≡ cell_across grid.now volts.now high low }
+    ensures { result ≡ cell_across grid.now (volts_at volts.now) high low }
 {
     cell_between(grid, &voltage(volts, high), &voltage(volts, low))
 }

@@ -1,23 +1,23 @@
-ghost use Rattle.std.specs.Prelude.{◌≡◌, ◌<◌, ◌+◌, ℕ, pos, true, length, map, slice_index_or, IsTrue, IfOk, OnOk};
-ghost use Rattle.std.specs.List.{list_all};
+ghost use Rattle.std.specs.Prelude.{◌≡◌, ◌<◌, ◌+◌, ℕ, pos, length, map, slice_index_or, IsTrue, IfOk, OnOk};
 ghost use Rattle.semantics.specs.Deck.{nodes};
 ghost use Rattle.semantics.specs.Event.{events_to};
 ghost use Rattle.semantics.specs.Run.{run};
 ghost use Rattle.semantics.specs.Valid.{is_valid};
 ghost use Rattle.semantics.specs.Wave.{rate};
 ghost use Rattle.circuit_model.specs.Network.{cells_at};
-ghost use Rattle.circuit_model.specs.Wiring.{devices_of, has_table, inflows, ohmic_grid};
+ghost use Rattle.circuit_model.specs.Wiring.{devices_of, inflows, ohmic_grid};
 
-use crate::device::{Device, HALF};
+use crate::device::{Device, HALF, devices_of};
 use crate::drive::driven_rate;
 use crate::events::Events;
+use crate::node_names::NodeNames;
 use deck_cards::Deck;
 use device_tables::Grid;
 use semantics::Fraction;
 use std::alloc::{AllocError, Global};
 use std::marker::Model;
 
-/// A deck with its devices by node numbers. A contract sees the deck.
+/// A deck with its devices, by the places of its nodes. A contract sees the deck.
 #[derive(Drop)]
 pub struct Network<'a> {
     deck: &'a Deck,
@@ -43,12 +43,8 @@ impl<'a> Network<'a> {
         ensures { IfOk result (λ network. network ≡ deck.now) }
     {
         let grid = Grid::uniform(deck.grain(), HALF);
-        let mut devices = Vec::new(alloc);
-        for place in 0..deck.len() {
-            if let Some(device) = Device::at(deck, place) {
-                devices.push(device)?;
-            }
-        }
+        let names = NodeNames::new().with_nodes(alloc, deck)?;
+        let devices = devices_of(alloc, deck, &names)?;
         Ok(Network {
             deck,
             grid,
@@ -60,7 +56,6 @@ impl<'a> Network<'a> {
     pub(crate) fn deck(&self) -> &Deck
         ensures deck { result.now ≡ self.now }
         ensures valid { IsTrue (is_valid self.now) }
-        ensures tables { list_all (has_table self.now) self.now.elements ≡ true }
     {
         self.deck
     }
@@ -74,9 +69,8 @@ impl<'a> Network<'a> {
 
     /// The devices, by their places among the elements.
     fn devices(&self) -> &[Device<'a>]
-        ensures devices { result.now ≡ devices_of self.now }
+        ensures devices { result.now ≡ devices_of self.now (nodes self.now) }
         ensures valid { IsTrue (is_valid self.now) }
-        ensures tables { list_all (has_table self.now) self.now.elements ≡ true }
     {
         self.devices.as_slice()
     }
@@ -144,7 +138,7 @@ impl<'a> Network<'a> {
     fn find_currents(&self, cells: &[(u32, u32)], rates: &mut [i128])
         requires cells { (tick : ℕ) × (cells.now ≡ cells_at self.now tick) }
         requires count { length rates.old ≡ length (nodes self.now) }
-        ensures { (i : ℕ) → i < length (nodes self.now) → slice_index_or rates.new i (pos 0) ≡ inflows self.now.grain i (devices_of self.now) cells.now }
+        ensures { (i : ℕ) → i < length (nodes self.now) → slice_index_or rates.new i (pos 0) ≡ inflows self.now.grain i (devices_of self.now (nodes self.now)) cells.now }
     {
         rates.fill(0);
         let grain = self.deck().grain();

@@ -4,9 +4,10 @@ ghost use Rattle.std.specs.Prelude.{◌≡◌, ◌≤◌, ◌<◌, ◌+◌, ◌^
 ghost use Rattle.semantics.specs.Points.{rising_times};
 ghost use Rattle.semantics.specs.Source.{between, pair_at, signed, slope_at};
 ghost use Rattle.semantics.specs.Valid.{is_source};
-ghost use Rattle.circuit_model.specs.Points.{IsSpan, time_at};
+ghost use Rattle.circuit_model.specs.Drive.{course, signed_line, IsNextTurn};
+ghost use Rattle.circuit_model.specs.Points.{stretch_at, time_at, IsSpan};
 
-use semantics::{Fraction, Wave};
+use semantics::{Fraction, Line, Wave};
 
 /// Where a tick lies among the points of a source.
 #[derive(Clone, Copy)]
@@ -116,4 +117,68 @@ pub(crate) fn turned_slope(wave: &Wave, second: bool, tick: u64) -> i128
 {
     let slope = slope_at(wave, tick);
     if second { -slope } else { slope }
+}
+
+/// The line of a source from a tick on.
+pub(crate) fn course(wave: &Wave, tick: u64) -> Line
+    requires { IsTrue (is_source wave.now) }
+    ensures { result ≡ course wave.now tick }
+{
+    let Fraction { num, den } = pair_at(wave, tick);
+    Line {
+        start: tick,
+        num,
+        rate: slope_at(wave, tick),
+        den,
+    }
+}
+
+/// The same line with the sign turned where `second` holds.
+pub(crate) fn signed_line(line: Line, second: bool) -> Line
+    requires num { unsigned_abs line.num ≤ 10 ^ 20 }
+    requires rate { unsigned_abs line.rate ≤ 10 ^ 10 }
+    ensures { result ≡ signed_line second line }
+{
+    if !second {
+        return line;
+    }
+    Line {
+        num: -line.num,
+        rate: -line.rate,
+        ..line
+    }
+}
+
+/// The slope and the denominator of the voltage of a source that has passed so many of its points.
+fn stretch_at(points: &[(u64, i64)], passed: usize) -> (i128, u64)
+    requires source { IsTrue (is_source points.now) }
+    requires passed { passed ≤ length points.now }
+    ensures { result ≡ stretch_at points.now passed }
+{
+    if passed == 0 || passed == points.len() {
+        return (0, 1);
+    }
+    let (from, to) = (points[passed - 1], points[passed]);
+    (i128::from(to.1 - from.1), to.0 - from.0)
+}
+
+/// The next tick up to the stop at which the line of a source turns.
+pub(crate) fn next_turn(wave: &Wave, tick: u64, stop: u64) -> Option<u64>
+    requires source { IsTrue (is_source wave.now) }
+    requires tick { tick ≤ stop }
+    ensures { IsNextTurn (course wave.now) stop tick result }
+{
+    let points = wave.points();
+    let passed = passed_at(points, tick);
+    let now = stretch_at(points, passed);
+    for place in passed..points.len() {
+        let next = points[place].0;
+        if next > stop {
+            return None;
+        }
+        if stretch_at(points, place + 1) != now {
+            return Some(next);
+        }
+    }
+    None
 }

@@ -11,7 +11,7 @@ use semantics::Fraction;
 use std::alloc::{AllocError, Global};
 
 /// The voltage of a node of this capacitance that is charged to this voltage.
-fn charged(capacity: u64, volts: i64) -> Fraction
+pub(crate) fn charged(capacity: u64, volts: i64) -> Fraction
     ensures { result ≡ record { num = (pos capacity) *ℤ volts; den = capacity } }
 {
     Fraction {

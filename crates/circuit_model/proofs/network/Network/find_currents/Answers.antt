@@ -23,7 +23,7 @@ current-amps-requires-clause-grain c =
 pub current-amps-requires-clause-wired : goal.current-amps-requires-clause-wired
 current-amps-requires-clause-wired c =
     let d : DeckValue = c.args.self.now in
-    (length (nodes d), device_wired d c.devices-devices.result.now c.loop-k.k c.index-devices-k.result (limits d c.devices-devices.ensures.valid) c.devices-devices.ensures.devices c.loop-k-test.true c.index-devices-k.is)
+    (length (nodes d), device_wired d (nodes d) c.devices-devices.result.now c.loop-k.k c.index-devices-k.result (limits d c.devices-devices.ensures.valid) c.devices-devices.ensures.devices c.loop-k-test.true c.index-devices-k.is)
 
 pub current-amps-requires-clause-cells : goal.current-amps-requires-clause-cells
 current-amps-requires-clause-cells c =
@@ -34,13 +34,13 @@ pub let_flow-requires-clause-wired : goal.let_flow-requires-clause-wired
 let_flow-requires-clause-wired c =
     let d : DeckValue = c.args.self.now in
     let size : length c.loop-k.rates ≡ length (nodes d) = c.loop-k.auto.rates ∙ c.fill.ensures.len ∙ c.requires.count in
-    rw size (device_wired d c.devices-devices.result.now c.loop-k.k c.index-devices-k.result (limits d c.devices-devices.ensures.valid) c.devices-devices.ensures.devices c.loop-k-test.true c.index-devices-k.is)
+    rw size (device_wired d (nodes d) c.devices-devices.result.now c.loop-k.k c.index-devices-k.result (limits d c.devices-devices.ensures.valid) c.devices-devices.ensures.devices c.loop-k-test.true c.index-devices-k.is)
 
 pub let_flow-requires-clause-small : goal.let_flow-requires-clause-small
 let_flow-requires-clause-small c = λ i.
     let d : DeckValue = c.args.self.now in
-    let same : c.devices-devices.result.now ≡ devices_of d = c.devices-devices.ensures.devices in
-    let few : length c.devices-devices.result.now ≤ 100000 = rw same (devices_few d (limits d c.devices-devices.ensures.valid)) in
+    let same : c.devices-devices.result.now ≡ devices_of d (nodes d) = c.devices-devices.ensures.devices in
+    let few : length c.devices-devices.result.now ≤ 100000 = rw same (devices_few d (nodes d) (limits d c.devices-devices.ensures.valid)) in
     omega (arith, c.loop-k.invariant.small i, c.loop-k-test.true, few)
 
 pub loop-k-preserved : goal.loop-k-preserved
@@ -57,5 +57,5 @@ loop-k-preserved c =
     record {
       flows = λ i below. flowed d.grain i devices c.args.cells.now k device (get_or c.loop-k.rates i (pos 0)) (get_or c.let_flow.new.rates i (pos 0)) amps _ c.loop-k-test.true (omega (arith, c.loop-k-test.true, count)) c.index-devices-k.is value
           (rw (to_z-of_z w64 amps fits) at c.let_flow.ensures i) (c.loop-k.invariant.flows i below);
-      small = λ i. rw (c.let_flow.ensures i, to_z-of_z w64 amps fits) (omega (arith, ints, c.loop-k.invariant.small i, inflow_small i device amps c.current-amps.ensures.small));
+      small = λ i. rw (c.let_flow.ensures i, to_z-of_z w64 amps fits) (omega (arith, ints, c.loop-k.invariant.small i, inflow_small i device.ends amps c.current-amps.ensures.small));
     }

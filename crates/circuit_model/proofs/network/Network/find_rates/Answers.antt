@@ -31,7 +31,7 @@ loop-node-preserved c =
       | in_default w ↦
           let free : driver d (get_or (nodes d) node []) ≡ None = rw c.deck-deck.ensures.deck at w.in_default.ensures.free in
           let flows : get_or c.loop-node.rates node (pos 0) ≡ here node =
-          c.loop-node.invariant.rest node (omega arith) (omega (arith, inside, count)) ∙ rw c.requires.cells (rate_at d c.args.tick node c.deck-deck.ensures.tables (omega (arith, inside, count)) free) in
+          c.loop-node.invariant.rest node (omega arith) (omega (arith, inside, count)) ∙ rw c.requires.cells (rate_at d c.args.tick node (omega (arith, inside, count)) free) in
           record {
             done = λ i below. rw w.rates-is (⊎_elim (λ (before : i < node). c.loop-node.invariant.done i before) (λ (last : node ≤ i). let same : i ≡ node = omega arith in rw same flows) (cases_lt i node));
             rest = λ i above below. rw w.rates-is (c.loop-node.invariant.rest i (omega arith) below);
