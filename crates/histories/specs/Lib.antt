@@ -1,0 +1,5 @@
+pub mod Track
+pub mod Place
+pub mod Pairs
+pub mod Piece
+pub mod Record
