@@ -1,0 +1,4 @@
+pub mod Nodes
+pub mod Courses
+pub mod Holds
+pub mod Stretch
