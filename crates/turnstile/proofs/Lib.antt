@@ -1,0 +1,4 @@
+pub mod Growing
+pub mod Keeps
+pub mod Making
+pub mod Moves

@@ -1,0 +1,5 @@
+use Rattle.std.proofs.Common.{◌∙◌}
+use Rattle.turnstile.proofs.turnstile.Turnstile.draw.Goals as goal
+
+pub try_draw-requires : goal.try_draw-requires
+try_draw-requires g c = let i = c.loop.invariant in let r = c.requires.1 in (i.3 ∙ c.requires.0, (r.0, r.1, i.5 ∙ r.2))

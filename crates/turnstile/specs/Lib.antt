@@ -1,0 +1,6 @@
+pub mod Lending
+pub mod Lists
+pub mod Making
+pub mod Passes
+pub mod Rule
+pub mod Steps
