@@ -1,0 +1,3 @@
+pub mod FreeWaves
+pub mod DrivenWaves
+pub mod NodeNames

@@ -1,0 +1,4 @@
+pub mod ByNames
+pub mod Starting
+pub mod Splicing
+pub mod Whole

@@ -1,0 +1,10 @@
+pub mod Due
+pub mod Flows
+pub mod Lines
+pub mod Noted
+pub mod Waiting
+pub mod Pieces
+pub mod Runs
+pub mod Sources
+pub mod Known
+pub mod Begin

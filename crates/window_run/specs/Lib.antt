@@ -1,0 +1,4 @@
+pub mod Net
+pub mod Pieces
+pub mod Stage
+pub mod Circuit
