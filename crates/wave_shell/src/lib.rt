@@ -1,6 +1,7 @@
 //! The program as one call: it reads a deck, runs it, and writes its waves.
 #![tactic(auto)]
 
+mod run;
 mod shell;
 mod status;
 #[cfg(test)]

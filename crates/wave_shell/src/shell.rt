@@ -1,5 +1,4 @@
 ghost use Rattle.std.specs.Prelude.{◌≡◌, ◌≤◌, ◌⊎◌, ℕ, List, None, Some, map, length, option_map, string_bytes, Contains, IfSome, IfOk, []};
-ghost use Rattle.semantics.specs.Text.{default_output};
 ghost use Rattle.std.specs.Io.KnownBytes.{Appends};
 ghost use Rattle.outside.specs.Causes.{Rose};
 ghost use Rattle.outside.specs.Content.{AppendsFront, SameBytes};
@@ -7,13 +6,12 @@ ghost use Rattle.outside.specs.declared.reading.TheConstants.{READ_LIMIT};
 ghost use Rattle.wave_shell.specs.Answer.{answer, deck_answer, deck_name, is_name, refusal_text, said, Ends, Gives, IsFault, NameRose};
 ghost use Rattle.wave_shell.specs.declared.status.Status.TheVariants.{Deck as Refused};
 
+use crate::run::run_text;
 use crate::status::Status;
-use crate::text::{default_output, refusal_text};
-use circuit_model::tick_run;
-use deck_cards::Deck;
+use crate::text::refusal_text;
 use deck_reader::{DeckRefusal, DeckWhy, read};
 use outside::{ReadRefusal, Shelf, Sink, read_whole, write_all};
-use std::alloc::{AllocError, Global};
+use std::alloc::Global;
 
 const WORDS: &[u8] = b"words do not fit the command\n";
 
@@ -47,14 +45,6 @@ fn say<K: Sink>(sink: &mut K, status: Status, text: &[u8]) -> Status
     }
 }
 
-/// The waves of a deck as text. Its events are dropped before the text is made.
-fn waves_text(alloc: Global, deck: &Deck) -> Result<String, AllocError>
-    ensures { IfOk result (λ text. string_bytes text ≡ default_output deck.now) }
-{
-    let waves = tick_run(alloc, deck)?.waves;
-    default_output(alloc, deck, &waves)
-}
-
 /// Tells the first fault of a deck.
 fn refuse<K: Sink>(alloc: Global, refusal: &DeckRefusal, sink: &mut K) -> Status
     ensures ends { Ends (said Refused (refusal_text refusal.now)) result (K.written sink.old) (K.written sink.new) (K.faults sink.old) (K.faults sink.new) }
@@ -73,7 +63,7 @@ fn answer_deck<K: Sink>(alloc: Global, bytes: &[u8], sink: &mut K) -> Status
     ensures later { K.faults sink.old ≤ K.faults sink.new }
 {
     match read(alloc, bytes) {
-        Ok(deck) => match waves_text(alloc, &deck) {
+        Ok(deck) => match run_text(alloc, &deck) {
             Ok(text) => say(sink, Status::Ok, text.as_bytes()),
             Err(_) => Status::Memory,
         },
@@ -84,8 +74,8 @@ fn answer_deck<K: Sink>(alloc: Global, bytes: &[u8], sink: &mut K) -> Status
     }
 }
 
-/// Reads the deck that the words name, runs it tick by tick, and writes version 0 and the wave of
-/// each node.
+/// Reads the deck that the words name, runs it from event to event, and writes version 0 and the wave
+/// of each node.
 ///
 /// The words are those after the program's name. They fit where there is exactly one and it does
 /// not begin with `-`, or is `-` alone; else the answer is `Words`. It is `Deck` where the deck has

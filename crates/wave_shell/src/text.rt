@@ -1,14 +1,18 @@
 //! The lines that the program prints.
 
-ghost use Rattle.std.specs.Prelude.{◌≡◌, ◌≤◌, ◌++◌, ℕ, map, length, string_bytes, IfOk, OnOk, All};
+ghost use Rattle.std.specs.Prelude.{◌≡◌, ◌≤◌, ◌<◌, ◌++◌, ℕ, map, length, string_bytes, IfOk, IsTrue, OnOk, All};
 ghost use Rattle.semantics.specs.Deck.{nodes};
 ghost use Rattle.semantics.specs.Text.{line_text, wave_head, wave_text, version_text, default_output};
+ghost use Rattle.semantics.specs.Valid.{is_valid};
 ghost use Rattle.semantics.specs.Wave.{wave};
+ghost use Rattle.record_waves.specs.RunRecord.{IsRunOf};
 ghost use Rattle.wave_shell.specs.Answer.{refusal_text};
 
-use circuit_model::{Line, Waves};
+use circuit_model::{Circuit, Line, Waves};
 use deck_cards::{Deck, Name};
 use deck_reader::DeckRefusal;
+use histories::Histories;
+use record_waves::wave;
 use std::alloc::{AllocError, Global};
 
 /// `TICK MICROVOLTS NUM RATE DEN`, the microvolts rounded down.
@@ -79,6 +83,28 @@ pub fn default_output(alloc: Global, deck: &Deck, waves: &Waves) -> Result<Strin
     let mut text = version_text(alloc, 0)?;
     for node in 0..deck.node_count() {
         push_wave(alloc, &mut text, deck.node(node), waves.wave(node))?;
+    }
+    Ok(text)
+}
+
+/// The same from a record of the run, wave after wave.
+#[tactic(auto, unfolding(semantics::specs::Text::default_output))]
+pub fn record_output(
+    alloc: Global,
+    deck: &Deck,
+    circuit: &Circuit,
+    past: &Histories,
+) -> Result<String, AllocError>
+    requires circuit { circuit.now ≡ record { deck = deck.now; names = nodes deck.now } }
+    requires run { IsRunOf circuit.now past.now }
+    requires stop { 0 < deck.now.stop }
+    requires valid { IsTrue (is_valid deck.now) }
+    ensures { IfOk result (λ text. string_bytes text ≡ default_output deck.now) }
+{
+    let mut text = version_text(alloc, 0)?;
+    for node in 0..circuit.node_count() {
+        let lines = wave(alloc, circuit, past, node)?;
+        push_wave(alloc, &mut text, deck.node(node as usize), &lines)?;
     }
     Ok(text)
 }

@@ -5,8 +5,8 @@ use Rattle.deck_reader.specs.Reading.{at, deck_in}
 use Rattle.wave_shell.proofs.Endings.{is_deck, is_refused}
 use Rattle.wave_shell.proofs.shell.answer_deck.Goals as goal
 
-pub returns-in-Ok-waves_text : goal.returns-in-Ok-waves_text
-returns-in-Ok-waves_text g c = rw (is_deck c.args.bytes.now c.in-Ok.deck c.requires c.in-Ok.ensures, ← c.in-Ok-waves_text.ensures, ← c.as_bytes.ensures.value) c.say.ensures
+pub returns-in-Ok-run_text : goal.returns-in-Ok-run_text
+returns-in-Ok-run_text g c = rw (is_deck c.args.bytes.now c.in-Ok.deck c.requires c.in-Ok.ensures, ← c.in-Ok-run_text.ensures, ← c.as_bytes.ensures.value) c.say.ensures
 
 -- a cause other than want of memory is that of the deck
 pub returns : goal.returns

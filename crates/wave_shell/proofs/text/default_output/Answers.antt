@@ -8,22 +8,14 @@ use Rattle.semantics.specs.declared.line.Line.{Line}
 use Rattle.semantics.specs.Deck.{DeckValue, nodes}
 use Rattle.semantics.specs.Text.{version_text, wave_text}
 use Rattle.semantics.specs.Wave.{wave}
+use Rattle.wave_shell.proofs.WaveTexts.{at_place, more}
 use Rattle.wave_shell.proofs.text.default_output.Goals as goal
-
--- what stands at a place
-at_place : {X : Type 0} (xs : List X) (i : ℕ) (x d : X) → i < length xs → slice_get xs i ≡ Some x → x ≡ get_or xs i d
-at_place xs i x d below at = let k : Some x ≡ Some (get_or xs i d) = sym at ∙ slice_get-get_or xs i d below in cc
 
 pub push_wave-requires : goal.push_wave-requires
 push_wave-requires c =
     let waves : List (List Line) = c.args.waves.now in
     let below : c.loop-node.node < length waves = omega (arith, c.node_count-node-end.ensures, ap (λ (xs : List (List Line)). length xs) c.requires.waves, length-map (nodes c.args.deck.now) (wave c.args.deck.now)) in
     rw (at_place waves c.loop-node.node c.wave.result.now [] below c.wave.ensures) (c.requires.dens c.loop-node.node [] below)
-
-more : (d : DeckValue) (i : ℕ) (text new head : List ℕ) (n : List ℕ) (lines : List Line) → i < length (nodes d) → n ≡ get_or (nodes d) i [] → lines ≡ wave d n
-    → text ≡ head ++ flat_map (λ m. wave_text m (wave d m)) (take i (nodes d)) → new ≡ text ++ wave_text n lines → new ≡ head ++ flat_map (λ m. wave_text m (wave d m)) (take (i + 1) (nodes d))
-more d i text new head n lines below at is so grown =
-    grown ∙ rw (so, is, at, take_more (nodes d) i [] below) (flat_map_more (λ m. wave_text m (wave d m)) head (take i (nodes d)) (get_or (nodes d) i []))
 
 pub loop-node-preserved : goal.loop-node-preserved
 loop-node-preserved c =
