@@ -68,7 +68,7 @@ pub record RightNear (d : DeckValue) (x : Record) (n : List ℕ) (t : ℕ) : Typ
   pub near : (m : List ℕ) (s : ℕ) → is_free d m ≡ true → share d m n ≡ true → s ≤ t → HasRun d x m s
 
 -- there the record turns where a line begins
-turn_begins : (d : DeckValue) (x : Record) (n : List ℕ) (t : ℕ) → is_free d n ≡ true → RightNear d x n t → is_turn d x n t ≡ begins d t n
+pub turn_begins : (d : DeckValue) (x : Record) (n : List ℕ) (t : ℕ) → is_free d n ≡ true → RightNear d x n t → is_turn d x n t ≡ begins d t n
 unfolding begins entry
 turn_begins d x n zero free right = refl
 turn_begins d x n (suc t) free right =

@@ -65,6 +65,15 @@ impl Wave {
         Ok(Wave { points })
     }
 
+    /// An equal wave.
+    pub fn copy(&self) -> Result<Wave, AllocError>
+        ensures { IfOk result (λ wave. wave ≡ self.now) }
+    {
+        Ok(Wave {
+            points: self.points.clone()?,
+        })
+    }
+
     /// The number of points.
     pub fn len(&self) -> usize
         ensures points { result ≡ length self.now }
