@@ -70,7 +70,7 @@ first_at f xs i x d within at = ap (first_some f) (dropped xs i x d within at) �
 
 -- ---- exactly where there is none
 
-is_none-or : {A : Type 0} (a b : Option A) → is_none (option_or a b) ≡ (is_none a && is_none b)
+pub is_none-or : {A : Type 0} (a b : Option A) → is_none (option_or a b) ≡ (is_none a && is_none b)
 is_none-or None b = refl
 is_none-or (Some x) b = refl
 

@@ -1,3 +1,4 @@
+pub mod Accepted
 pub mod Added
 pub mod Counting
 pub mod Differ
@@ -8,5 +9,8 @@ pub mod Known
 pub mod Meaning
 pub mod Named
 pub mod Once
+pub mod Standing
+pub mod Swapped
+pub mod Touched
 pub mod Within
 pub mod Validity

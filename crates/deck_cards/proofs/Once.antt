@@ -80,6 +80,30 @@ pub no_place_named : {X : Type 0} (f : X → List ℕ) (n : List ℕ) (xs : List
 no_place_named f n xs names (Some i) is same = tt
 no_place_named f n xs names None is same = sym (any_map (bytes_eq n) f xs) ∙ ap (list_any (bytes_eq n)) (sym same) ∙ sym is
 
+-- a name's place, where its values are changed as all values are
+pub part_placed : {A B : Type 0} (f : A → B) (n : List ℕ) (ps : List (List ℕ × A)) (r : Option ℕ) → IfSome r (λ i. slice_get (map (λ p. p.1) ps) i ≡ lookup (bytes_eq n) ps)
+    → IfSome r (λ i. option_map (λ (p : List ℕ × B). p.1) (slice_get (map (λ p. (p.0, f p.1)) ps) i) ≡ look_up n (map (λ p. (p.0, f p.1)) ps))
+part_placed f n ps None at = tt
+part_placed {A = A} {B = B} f n ps (Some i) at =
+    ap (option_map (λ (p : List ℕ × B). p.1)) (slice_get-map (λ (p : List ℕ × A). (p.0, f p.1)) ps i) ∙ merged (slice_get ps i)
+    ∙ ap (option_map f) (sym (slice_get-map (λ (p : List ℕ × A). p.1) ps i) ∙ at ∙ look_up_is n ps) ∙ look_up_map f n ps
+  where
+    merged : (o : Option (List ℕ × A)) → option_map (λ (p : List ℕ × B). p.1) (option_map (λ (p : List ℕ × A). (p.0, f p.1)) o) ≡ option_map f (option_map (λ (p : List ℕ × A). p.1) o)
+    merged None = refl
+    merged (Some p) = refl
+
+pub keys_stay : {A B : Type 0} (f : A → B) (ps : List (List ℕ × A)) → map (λ p. p.0) ps ≡ map (λ (p : List ℕ × B). p.0) (map (λ p. (p.0, f p.1)) ps)
+keys_stay f [] = refl
+keys_stay f (p ∷ ps) = ap (λ ks. p.0 ∷ ks) (keys_stay f ps)
+
+pub none_placed : {A B : Type 0} (f : A → B) (n : List ℕ) (ps : List (List ℕ × A)) (r : Option ℕ) → is_some r ≡ is_some (lookup (bytes_eq n) ps) → IfNone r (look_up n (map (λ p. (p.0, f p.1)) ps) ≡ None)
+none_placed f n ps (Some i) found = tt
+none_placed {A = A} {B = B} f n ps None found = nothing (look_up n (map (λ (p : List ℕ × A). (p.0, f p.1)) ps)) (found ∙ found_is f n ps)
+  where
+    nothing : (o : Option B) → false ≡ is_some o → o ≡ None
+    nothing None is = refl
+    nothing (Some x) is = absurd (cc)
+
 -- the values of names that stand once are changed as all values are
 put_map : {A B : Type 0} (f : A → B) (qs : List (List ℕ × A)) (p : List ℕ × A) → map (λ q. (q.0, f q.1)) (put qs p) ≡ put (map (λ q. (q.0, f q.1)) qs) (p.0, f p.1)
 put_map f [] p = refl

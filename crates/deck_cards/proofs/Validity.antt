@@ -39,11 +39,11 @@ clear_none d c = λ i. option_or (c.adding i) (option_or (c.capped i) (option_or
 
 -- ---- free nodes
 
-all_imply : {A : Type 0} (p q : A → Bool) → ((x : A) → p x ≡ true → q x ≡ true) → (xs : List A) → list_all p xs ≡ true → list_all q xs ≡ true
+pub all_imply : {A : Type 0} (p q : A → Bool) → ((x : A) → p x ≡ true → q x ≡ true) → (xs : List A) → list_all p xs ≡ true → list_all q xs ≡ true
 all_imply p q each [] all = refl
 all_imply p q each (x ∷ xs) all = let h = and_both (p x) (list_all p xs) all in λ i. each x h.0 i && all_imply p q each xs h.1 i
 
-all_both : {A : Type 0} (p q : A → Bool) (xs : List A) → list_all p xs ≡ true → list_all q xs ≡ true → list_all (λ x. p x && q x) xs ≡ true
+pub all_both : {A : Type 0} (p q : A → Bool) (xs : List A) → list_all p xs ≡ true → list_all q xs ≡ true → list_all (λ x. p x && q x) xs ≡ true
 all_both p q [] a b = refl
 all_both p q (x ∷ xs) a b =
     let h = and_both (p x) (list_all p xs) a in

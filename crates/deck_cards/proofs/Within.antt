@@ -7,7 +7,7 @@ use Rattle.semantics.specs.declared.element.Element.TheVariants.{Resistor, Capac
 use Rattle.semantics.specs.Part as part
 use Rattle.semantics.specs.Points.{rising_times}
 use Rattle.semantics.specs.Deck.{first_some}
-use Rattle.semantics.specs.Valid.{small_volts, small_vto, some_gain, some_ohms, some_farads, some_metres, short_time, small_amps, in_limits, is_grid, is_part, rising}
+use Rattle.semantics.specs.Valid.{small_volts, small_vto, some_gain, some_ohms, some_farads, some_metres, short_time, in_limits, is_grid, is_part, rising}
 use Rattle.deck_cards.specs.declared.which.Which.{Which}
 use Rattle.deck_cards.specs.declared.which.Which.TheVariants.{Volts, Seconds, Gain, Amps}
 use Rattle.deck_cards.specs.Causes.{limit, outside, limited, point_limit, part_limit, element_limit}

@@ -126,17 +126,20 @@ many_nodes d = many_nodes_from [] d.elements
 
 -- ---- the whole deck
 
--- what no element alone can tell
-unfoldable pub whole_cause : DeckValue → Option EditRefusal
-whole_cause d = first_of (
+-- what no element alone can tell, where this is the first value outside its limit
+abbrev pub whole_with : Option EditRefusal → DeckValue → Option EditRefusal
+whole_with value d = first_of (
     uncapped d
     ∷ no_initial d
-    ∷ value_limit d
+    ∷ value
     ∷ many_elements d
     ∷ many_nodes d
     ∷ node_farads d
     ∷ many_terminals d
     ∷ [])
+
+unfoldable pub whole_cause : DeckValue → Option EditRefusal
+whole_cause d = whole_with (value_limit d) d
 
 unfoldable pub deck_cause : DeckValue → Option EditRefusal
 deck_cause d = option_or (adding_cause d [] d.elements) (whole_cause d)

@@ -4,3 +4,5 @@ pub mod Part
 pub mod Causes
 pub mod Cards
 pub mod Settled
+pub mod Edits
+pub mod Text

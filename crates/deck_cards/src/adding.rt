@@ -5,17 +5,18 @@ ghost use Rattle.std.specs.List.{flat_map, list_any};
 ghost use Rattle.std.specs.Option.{option_map};
 ghost use Rattle.std.specs.Str.{bytes_eq};
 ghost use Rattle.semantics.specs.declared.element.Element.{Element as Card};
-ghost use Rattle.semantics.specs.Deck.{name_of};
+ghost use Rattle.semantics.specs.Deck.{DeckValue, name_of};
 ghost use Rattle.semantics.specs.Valid.{driven_of, has_part, is_grounded};
 ghost use Rattle.deck_cards.specs.declared.edit_refusal.EditRefusal.TheVariants as refusal;
 ghost use Rattle.deck_cards.specs.Answers.{Answers};
 ghost use Rattle.deck_cards.specs.Cards.{deck_of};
 ghost use Rattle.deck_cards.specs.Causes.{when, first_that, part_name, add_cause, adding_cause};
+ghost use Rattle.deck_cards.specs.Part.{part_of};
 
 use crate::edit_refusal::EditRefusal;
-use crate::elements;
+use crate::part::Part;
 use crate::settled::Settled;
-use indexmap::IndexSet;
+use indexmap::{IndexMap, IndexSet};
 use semantics::{Element, Name};
 use std::alloc::{AllocError, Global};
 
@@ -32,7 +33,7 @@ fn add_name(names: &mut IndexSet<Name>, element: &Element) -> Result<(), EditRef
     ensures cause { Answers result (when (list_any (bytes_eq (name_of element.now)) names.old.keys) (refusal.DuplicateName (name_of element.now))) }
     ensures keys { OnOk result (names.new.keys ≡ names.old.keys ++ name_of element.now ∷ []) }
 {
-    let name = elements::name_of(element);
+    let name = element.name();
     if !insert(names, name)? {
         return Err(EditRefusal::DuplicateName(name.copy()?));
     }
@@ -40,12 +41,13 @@ fn add_name(names: &mut IndexSet<Name>, element: &Element) -> Result<(), EditRef
 }
 
 /// Refuses a device whose part is not there.
-fn check_part(cards: &Settled, element: &Element) -> Result<(), EditRefusal>
-    ensures { Answers result (when (not (has_part (deck_of cards.now) element.now)) (refusal.NoSuchModel (part_name element.now))) }
+pub fn check_part(parts: &IndexMap<Name, Part>, element: &Element) -> Result<(), EditRefusal>
+    ensures { (d : DeckValue) → map (λ p. (p.0, part_of p.1)) parts.now.entries ≡ d.parts
+        → Answers result (when (not (has_part d element.now)) (refusal.NoSuchModel (part_name element.now))) }
 {
     match element {
         Element::Mos { part, .. } => {
-            if !cards.parts.contains_key(part) {
+            if !parts.contains_key(part) {
                 return Err(EditRefusal::NoSuchModel(part.copy()?));
             }
             Ok(())
@@ -60,8 +62,8 @@ fn check_part(cards: &Settled, element: &Element) -> Result<(), EditRefusal>
 fn check_grounded(element: &Element) -> Result<(), EditRefusal>
     ensures { Answers result (when (not (is_grounded element.now)) (refusal.NotGrounded (name_of element.now))) }
 {
-    if !elements::is_grounded(element) {
-        return Err(EditRefusal::NotGrounded(elements::name_of(element).copy()?));
+    if !element.is_grounded() {
+        return Err(EditRefusal::NotGrounded(element.name().copy()?));
     }
     Ok(())
 }
@@ -99,7 +101,7 @@ fn add(
     ensures driven { OnOk result (driven.new.keys ≡ driven.old.keys ++ driven_of element.now) }
 {
     add_name(names, element)?;
-    check_part(cards, element)?;
+    check_part(&cards.parts, element)?;
     check_grounded(element)?;
     add_driven(driven, element)
 }

@@ -8,9 +8,9 @@ ghost use Rattle.deck_cards.specs.Cards.{deck_of};
 ghost use Rattle.deck_cards.specs.Causes.{many_elements, many_nodes};
 
 use crate::edit_refusal::EditRefusal;
+use crate::nodes;
 use crate::settled::Settled;
 use crate::which::Which;
-use crate::{elements, nodes};
 use indexmap::IndexSet;
 use semantics::Element;
 use std::alloc::Global;
@@ -26,7 +26,7 @@ pub fn check_elements(cards: &Settled) -> Result<(), EditRefusal>
     match cards.elements.get(MOST) {
         None => Ok(()),
         Some(element) => {
-            let name = elements::name_of(element).copy()?;
+            let name = element.name().copy()?;
             Err(EditRefusal::Limit(Which::Elements, name))
         }
     }
@@ -44,7 +44,7 @@ pub fn check_nodes(alloc: Global, count: usize, cards: &Settled) -> Result<(), E
     for element in &cards.elements {
         nodes::add_ends(&mut names, element)?;
         if names.len() > MOST {
-            let name = elements::name_of(element).copy()?;
+            let name = element.name().copy()?;
             return Err(EditRefusal::Limit(Which::Nodes, name));
         }
     }

@@ -4,6 +4,7 @@ ghost use Rattle.deck_cards.specs.declared.edit_refusal.EditRefusal.TheVariants 
 use crate::which::Which;
 use semantics::Name;
 use std::alloc::AllocError;
+use std::fmt;
 
 /// Why an edit can't be made, or parts make no valid deck.
 #[derive(Debug, Drop)]
@@ -36,5 +37,27 @@ impl From<AllocError> for EditRefusal {
 
     fn from(_: AllocError) -> EditRefusal {
         EditRefusal::Memory
+    }
+}
+
+impl fmt::Display for EditRefusal {
+    ghost use Rattle.std.specs.Prelude.{Some};
+    ghost use Rattle.deck_cards.specs.Text.{refusal_text};
+
+    ghost output = { λ refusal. Some (refusal_text refusal) };
+
+    fn fmt<W: fmt::Write>(&self, f: &mut fmt::Formatter<W>) -> fmt::Result {
+        match self {
+            EditRefusal::NoSuchName(name) => write!(f, "no such name {name}"),
+            EditRefusal::WrongKind(name) => write!(f, "wrong kind {name}"),
+            EditRefusal::DuplicateName(name) => write!(f, "duplicate name {name}"),
+            EditRefusal::NoSuchModel(part) => write!(f, "no such model {part}"),
+            EditRefusal::NotGrounded(name) => write!(f, "not grounded {name}"),
+            EditRefusal::TwoDrivers(node) => write!(f, "two drivers {node}"),
+            EditRefusal::Uncapped(node) => write!(f, "uncapped {node}"),
+            EditRefusal::NoInitial(node) => write!(f, "no initial {node}"),
+            EditRefusal::Limit(which, name) => write!(f, "limit {which} {name}"),
+            EditRefusal::Memory => f.write_str("memory"),
+        }
     }
 }

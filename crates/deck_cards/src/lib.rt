@@ -4,9 +4,13 @@
 mod adding;
 mod counts;
 mod deck;
+mod edit;
 mod edit_refusal;
+mod edits;
 mod elements;
 mod facts;
+mod frame;
+pub mod laws;
 pub mod limits;
 mod nodes;
 mod part;
@@ -17,7 +21,9 @@ mod values;
 mod which;
 
 pub use deck::Deck;
+pub use edit::Edit;
 pub use edit_refusal::EditRefusal;
+pub use edits::Edits;
 pub use elements::{is_grounded, name_of};
 pub use nodes::add_ends;
 pub use part::Part;

@@ -12,17 +12,17 @@ ghost use Rattle.deck_cards.specs.Part.{part_of};
 ghost use Rattle.deck_cards.specs.declared.which.Which.TheVariants as which_of;
 
 use crate::edit_refusal::EditRefusal;
+use crate::limits;
 use crate::part::Part;
 use crate::settled::Settled;
 use crate::which::Which;
-use crate::{elements, limits};
 use device_tables::Table;
 use indexmap::IndexMap;
 use semantics::{Channel, Element, Name, Wave};
 use std::alloc::Global;
 
 /// Refuses a value that is not within its limit.
-fn check(within: bool, which: Which, name: &Name) -> Result<(), EditRefusal>
+pub fn check(within: bool, which: Which, name: &Name) -> Result<(), EditRefusal>
     ensures { Answers result (limit within which name.now) }
 {
     if !within {
@@ -73,7 +73,7 @@ fn part_limit(part: &Part) -> Option<Which>
 }
 
 /// Refuses a value of this name, where one is outside its limit.
-fn refuse(name: &Name, which: Option<Which>) -> Result<(), EditRefusal>
+pub fn refuse(name: &Name, which: Option<Which>) -> Result<(), EditRefusal>
     ensures cause { Answers result (limited name.now which) }
     ensures none { OnOk result (which ≡ None) }
 {
@@ -115,7 +115,7 @@ fn point_limit(point: &(u64, i64)) -> Option<Which>
 }
 
 /// What the first point of a source outside its limits is of.
-fn wave_limit(wave: &Wave) -> Option<Which>
+pub fn wave_limit(wave: &Wave) -> Option<Which>
     ensures value { result ≡ first_some point_limit wave.now }
     ensures valid { IfNone result (is_source wave.now ≡ true) }
 {
@@ -152,7 +152,7 @@ fn check_elements(elements: &[Element]) -> Result<(), EditRefusal>
     ensures valid { OnOk result (list_all in_limits elements.now ≡ true) }
 {
     for element in elements {
-        refuse(elements::name_of(element), element_limit(element))?;
+        refuse(element.name(), element_limit(element))?;
     }
     Ok(())
 }

@@ -1,3 +1,5 @@
+use std::fmt;
+
 /// What a limit is of.
 #[derive(Clone, Copy, Debug, PartialEq, Eq)]
 pub enum Which {
@@ -25,4 +27,28 @@ pub enum Which {
     NodeFarads,
     /// 1,000 ends that carry current at a free node.
     Terminals,
+}
+
+impl fmt::Display for Which {
+    ghost use Rattle.std.specs.Prelude.{Some};
+    ghost use Rattle.deck_cards.specs.Text.{which_text};
+
+    ghost output = { λ which. Some (which_text which) };
+
+    fn fmt<W: fmt::Write>(&self, f: &mut fmt::Formatter<W>) -> fmt::Result {
+        f.write_str(match self {
+            Which::Volts => "volts",
+            Which::Farads => "farads",
+            Which::Ohms => "ohms",
+            Which::Seconds => "seconds",
+            Which::Metres => "metres",
+            Which::Gain => "gain",
+            Which::Grain => "grain",
+            Which::Amps => "amps",
+            Which::Elements => "elements",
+            Which::Nodes => "nodes",
+            Which::NodeFarads => "node farads",
+            Which::Terminals => "terminals",
+        })
+    }
 }

@@ -1,4 +1,4 @@
-use Rattle.std.proofs.Common.{◌≡◌, ℕ, not, List, [], ◌∷◌, map, Option, sym, ◌∙◌, ap, subst}
+use Rattle.std.proofs.Common.{◌≡◌, ℕ, not, List, [], ◌∷◌, map, Option, refl, sym, ◌∙◌, ap, subst}
 use Rattle.std.specs.List.{flat_map, list_any}
 use Rattle.std.specs.Option.{option_map}
 use Rattle.std.specs.Str.{bytes_eq}
@@ -47,7 +47,7 @@ returns-in_err-check_part-clause-cause c = λ before names driven.
     let e = c.in_err-check_part.field-0.0 in
     subst (Answers r) (same_cause (deck_of c.args.cards.now) before c.args.element.now c.args.names.now.keys c.args.driven.now.keys names driven)
     (handed_on r e (by_names (deck_of c.args.cards.now) c.args.names.now.keys c.args.driven.now.keys c.args.element.now) c.from_residual-in_err-check_part.ensures.1
-    (refuses_next e _ _ c.in_ok-add_name.ensures.cause (refuses_first e _ _ c.in_err-check_part.ensures)))
+    (refuses_next e _ _ c.in_ok-add_name.ensures.cause (refuses_first e _ _ (c.in_err-check_part.ensures (deck_of c.args.cards.now) refl))))
 
 pub returns-in_err-check_grounded-clause-cause : goal.returns-in_err-check_grounded-clause-cause
 unfolding by_names
@@ -56,12 +56,12 @@ returns-in_err-check_grounded-clause-cause c = λ before names driven.
     let e = c.in_err-check_grounded.field-0.0 in
     subst (Answers r) (same_cause (deck_of c.args.cards.now) before c.args.element.now c.args.names.now.keys c.args.driven.now.keys names driven)
     (handed_on r e (by_names (deck_of c.args.cards.now) c.args.names.now.keys c.args.driven.now.keys c.args.element.now) c.from_residual-in_err-check_grounded.ensures.1
-    (refuses_next e _ _ c.in_ok-add_name.ensures.cause (refuses_next e _ _ c.in_ok-check_part.ensures (refuses_first e _ _ c.in_err-check_grounded.ensures))))
+    (refuses_next e _ _ c.in_ok-add_name.ensures.cause (refuses_next e _ _ (c.in_ok-check_part.ensures (deck_of c.args.cards.now) refl) (refuses_first e _ _ c.in_err-check_grounded.ensures))))
 
 pub returns-clause-cause : goal.returns-clause-cause
 unfolding by_names
 returns-clause-cause c = λ before names driven.
     let r = c.add_driven.result in
     subst (Answers r) (same_cause (deck_of c.args.cards.now) before c.args.element.now c.args.names.now.keys c.args.driven.now.keys names driven)
-    (answers_next r _ _ c.in_ok-add_name.ensures.cause (answers_next r _ _ c.in_ok-check_part.ensures (answers_next r _ _ c.in_ok-check_grounded.ensures
+    (answers_next r _ _ c.in_ok-add_name.ensures.cause (answers_next r _ _ (c.in_ok-check_part.ensures (deck_of c.args.cards.now) refl) (answers_next r _ _ c.in_ok-check_grounded.ensures
     (subst (Answers r) (sym (or_none (option_map TwoDrivers (first_that (λ n. list_any (bytes_eq n) c.args.driven.now.keys) (driven_of c.args.element.now))))) c.add_driven.ensures.cause))))

@@ -28,7 +28,7 @@ returns-then-len-gt-MOST c =
     let at = c.element-item.is ∙ ap (λ l. get_or l i x) c.deref-element-items.ensures.value in
     let many = over (length after) (omega (arith, c.len.ensures.len, c.if-len-gt-MOST.true)) in
     c.loop-element.invariant ∙ nodes_step es i x c.loop-element.names.keys after within at c.in_ok-add_ends.ensures
-    ∙ ap (λ b. option_or (limit b Nodes (name_of x)) (many_nodes_from after (drop (i + 1) es))) many ∙ ap (λ n. Some (Limit Nodes n)) (sym (c.in_ok-name.ensures ∙ c.name_of.ensures))
+    ∙ ap (λ b. option_or (limit b Nodes (name_of x)) (many_nodes_from after (drop (i + 1) es))) many ∙ ap (λ n. Some (Limit Nodes n)) (sym (c.in_ok-name.ensures ∙ c.name.ensures))
 
 pub loop-element-preserved : goal.loop-element-preserved
 loop-element-preserved c =

@@ -6,4 +6,4 @@ use Rattle.deck_cards.proofs.deck.Deck.initial.Goals as goal
 pub returns : goal.returns
 returns c =
     let n = c.args.node.now in
-    c.copied.ensures ∙ c.get.ensures.value ∙ look_up_is n c.self.inside.cards.initial.entries ∙ ap (λ d. look_up n d.initial) c.self.view_is
+    c.copied.ensures ∙ c.get.ensures.value ∙ look_up_is n c.voltages.result.now.entries ∙ ap (look_up n) c.voltages.ensures

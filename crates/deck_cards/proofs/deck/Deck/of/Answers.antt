@@ -1,9 +1,11 @@
-use Rattle.std.proofs.Common.{◌≡◌, ◌∙◌, IsTrue, true, None, Result, subst}
+use Rattle.std.proofs.Common.{◌≡◌, ◌∙◌, IsTrue, true, None, Result, subst, sym}
 use Rattle.std.specs.Result.{IsErrAnd}
+use Rattle.std.specs.List.{list_all}
 use Rattle.std.proofs.lemmas.List.Folds.{list_all-map}
 use Rattle.semantics.specs.Deck.{DeckValue}
-use Rattle.semantics.specs.Valid.{is_valid, is_part}
+use Rattle.semantics.specs.Valid.{is_valid, is_part, in_limits}
 use Rattle.deck_cards.specs.declared.edit_refusal.EditRefusal.{EditRefusal}
+use Rattle.deck_cards.specs.declared.settled.Settled.{Settled}
 use Rattle.deck_cards.specs.Answers.{Refuses, Answers}
 use Rattle.deck_cards.specs.Cards.{deck_of}
 use Rattle.deck_cards.specs.Causes.{deck_cause}
@@ -32,22 +34,21 @@ returns-in_err-names-clause-complete c = never c.from_residual-in_err-names.resu
 
 -- ---- the deck
 
-valid : (c : goal.In_ok-names) → is_valid (deck_of c.in_ok-cards.cards) ≡ true
-valid c =
-    let d = deck_of c.in_ok-cards.cards in
-    let found = c.in_ok-names.ensures in
-    let apart = once d c.args.parts c.in_ok-cards.ensures in
-    let parts = list_all-map (λ p. is_part p.1) (λ p. (p.0, part_of p.1)) c.in_ok-cards.cards.parts.entries ∙ found.parts in
-    none_valid d found.cause apart.0 parts apart.1 found.elements
+valid : (cards : Settled) (parts : DeckValue) → deck_of cards ≡ settled parts → deck_cause (deck_of cards) ≡ None → list_all (λ p. is_part (part_of p.1)) cards.parts.entries ≡ true
+    → list_all in_limits cards.elements.items ≡ true → is_valid (deck_of cards) ≡ true
+valid cards parts same none each elements =
+    let apart = once (deck_of cards) parts same in
+    none_valid (deck_of cards) none apart.0 (list_all-map (λ p. is_part p.1) (λ p. (p.0, part_of p.1)) cards.parts.entries ∙ each) apart.1 elements
 
-pub invariant_of-result : goal.invariant_of-result
-invariant_of-result c = record { valid = valid c; names = c.in_ok-names.ensures.names; table = c.in_ok-names.ensures.table }
+pub kept-requires : goal.kept-requires
+kept-requires c = record { valid = valid c.in_ok-cards.cards c.args.parts c.in_ok-cards.ensures c.in_ok-names.ensures.cause c.in_ok-names.ensures.parts c.in_ok-names.ensures.elements; names = c.in_ok-names.ensures.names; table = c.in_ok-names.ensures.table }
 
 pub returns-clause-deck : goal.returns-clause-deck
-returns-clause-deck c = c.in_ok-cards.ensures
+returns-clause-deck c = c.in_ok-kept.ensures ∙ c.in_ok-cards.ensures
 
 pub returns-clause-valid : goal.returns-clause-valid
-returns-clause-valid c = valid c
+returns-clause-valid c = subst (λ d. is_valid d ≡ true) (sym c.in_ok-kept.ensures)
+    (valid c.in_ok-cards.cards c.args.parts c.in_ok-cards.ensures c.in_ok-names.ensures.cause c.in_ok-names.ensures.parts c.in_ok-names.ensures.elements)
 
 pub returns-clause-cause : goal.returns-clause-cause
 returns-clause-cause c = subst (λ d. deck_cause d ≡ None) c.in_ok-cards.ensures c.in_ok-names.ensures.cause

@@ -8,5 +8,5 @@ use Rattle.deck_cards.proofs.deck.Deck.part.Goals as goal
 pub returns : goal.returns
 returns c =
     let n = c.args.name.now in
-    let parts = c.self.inside.cards.parts.entries in
-    option_copied_map part_of c.get.result ∙ ap (option_map part_of) (c.get.ensures.value ∙ look_up_is n parts) ∙ look_up_map part_of n parts ∙ ap (λ d. look_up n d.parts) c.self.view_is
+    let parts = c.parts.result.now.entries in
+    option_copied_map part_of c.get.result ∙ ap (option_map part_of) (c.get.ensures.value ∙ look_up_is n parts) ∙ look_up_map part_of n parts ∙ ap (look_up n) c.parts.ensures
