@@ -1,6 +1,6 @@
 -- The first line of a text, and the lines after it.
 use Rattle.std.proofs.Common.{◌≡◌, ℕ, ◌+◌, ◌-◌, ◌<◌, ◌≤◌, false, List, [], ◌∷◌, length, get_or, take, drop, refl, sym, inl, inr, arith, slice_range}
-use Rattle.std.specs.List.{slice_split, All, position_or_len, after_first}
+use Rattle.std.specs.List.{slice_split, All, position_or_len, after_first, enumerate_from}
 use Rattle.std.proofs.lemmas.List.{take_all, drop_all, take_rest, drop-drop, length-drop}
 use Rattle.std.proofs.lemmas.List.Sums.{fails_before_first, position_or_len_is}
 use Rattle.std.proofs.lemmas.List.Splits.{slice_split_none, slice_split_first, length-slice_split}
@@ -48,3 +48,7 @@ line_len-at text i l before here = sym (position_or_len_is ends_line text i 0 (o
 
 pub line_len-none : (text : List ℕ) (i : ℕ) → length text ≤ i → ((k : ℕ) → k < i → ends_line (get_or text k 0) ≡ false) → length text ≡ position_or_len ends_line text
 line_len-none text i l before = sym (position_or_len_is ends_line text (length text) 0 (omega arith) (λ k b. before k (omega arith)) (λ h. absurd (omega arith)))
+
+-- behind the end of a text there is no line
+pub no_lines : (text : List ℕ) (start number : ℕ) → length text ≤ start → enumerate_from number (lines_of (drop start text)) ≡ []
+no_lines text start number h = rw (drop_all start text h, lines_of-nil) refl

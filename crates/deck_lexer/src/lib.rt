@@ -7,6 +7,8 @@
 pub use card_line::{CardLine, Cards};
 pub use fault::LexFault;
 pub use lexer::{Lexed, Lexer, Next, cards};
+pub use line::{begins_with, is_ascii};
+pub use lines::Lines;
 pub use word::{Word, words};
 
 mod card_line;
@@ -14,6 +16,7 @@ mod draft;
 mod fault;
 mod lexer;
 mod line;
+mod lines;
 mod pending;
 mod scan;
 mod word;

@@ -30,7 +30,7 @@ pub(crate) fn line_end(text: &[u8], start: usize) -> usize
 }
 
 /// Whether the first byte of a line is this one.
-pub(crate) fn begins_with(line: &[u8], byte: u8) -> bool
+pub fn begins_with(line: &[u8], byte: u8) -> bool
     ensures { result ≡ begins_with byte line.now }
 {
     match line {
@@ -47,7 +47,7 @@ fn is_allowed(byte: u8) -> bool
 }
 
 /// Whether each byte of a line is one that a deck may have.
-pub(crate) fn is_ascii(line: &[u8]) -> bool
+pub fn is_ascii(line: &[u8]) -> bool
     ensures { result ≡ list_all is_allowed line.now }
 {
     line.iter().all(|byte| is_allowed(*byte))

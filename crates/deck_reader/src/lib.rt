@@ -27,3 +27,4 @@ mod words;
 pub use element::{read_element, read_wave};
 pub use reader::read;
 pub use why::{DeckRefusal, DeckWhy};
+pub use words::{Word, Words, node_of};
