@@ -1,10 +1,12 @@
 pub mod ByNumber
 pub mod Carried
 pub mod Circuits
+pub mod DevicePlaces
 pub mod Devices
 pub mod Entries
 pub mod Flows
 pub mod Growing
+pub mod Kepts
 pub mod Leads
 pub mod Named
 pub mod NearLists

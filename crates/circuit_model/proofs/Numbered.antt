@@ -13,9 +13,10 @@ use Rattle.semantics.specs.Part.{Part}
 use Rattle.semantics.specs.Valid.{has_part}
 use Rattle.semantics.proofs.Limits.{Limits}
 use Rattle.circuit_model.specs.declared.ends.Ends.{Ends}
+use Rattle.circuit_model.specs.Circuit.{IsNumbered}
 use Rattle.circuit_model.specs.Ends.{ends_in}
 use Rattle.circuit_model.specs.Near.{no_ends}
-use Rattle.circuit_model.specs.Numbers.{device_of, devices, no_element}
+use Rattle.circuit_model.specs.Numbers.{devices, no_element}
 use Rattle.device_tables.specs.Level.{part_table}
 use Rattle.circuit_model.specs.Wiring.{DeviceLaw, DeviceValue, Gated, device_by, devices_from, devices_of, law_at}
 
@@ -63,10 +64,6 @@ device_total d names l =
     sym (length-map (devices_of d names) (λ x. x.ends)) ∙ ap (λ (xs : List Ends). length xs) (ends_are d names l) ∙ length-map (devices d) (ends_in names)
 
 -- the device of a number stands for the element of that number
-pub record IsNumbered (d : DeckValue) (names : List (List ℕ)) (k : ℕ) (device : DeviceValue) : Type 0 where
-  pub ends_is : device.ends ≡ ends_in names (device_of d k)
-  pub law_is : law_at d (device_of d k) ≡ Some device.law
-
 pub numbered : (d : DeckValue) (names : List (List ℕ)) (items : List DeviceValue) (k : ℕ) (device : DeviceValue) → Limits d → items ≡ devices_of d names → k < length (devices d) → device ≡ get_or items k device → IsNumbered d names k device
 numbered d names items k device l are below is =
     let all : List DeviceValue = devices_of d names in

@@ -2,12 +2,14 @@ pub mod Carried
 pub mod Circuit
 pub mod Drive
 pub mod Ends
+pub mod Kept
 pub mod Lines
 pub mod Names
 pub mod Near
 pub mod Network
 pub mod Numbers
 pub mod Points
+pub mod Records
 pub mod Small
 pub mod State
 pub mod Wiring

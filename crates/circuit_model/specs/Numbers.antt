@@ -1,6 +1,6 @@
 -- A circuit by numbers: a deck, and the names by which its nodes are numbered.
 use Rattle.std.specs.Prelude.{◌≡◌, ℕ, ◌<◌, ◌≤◌, if◌then◌else◌, ℤ, pos, ◌+ℤ◌, List, [], length, filter, fold, is_some, option_and_then, Option, None, IfSome, slice_get, slice_index_or}
-use Rattle.std.specs.List.{list_any, range_with_len}
+use Rattle.std.specs.List.{enumerate_from, list_any, range_with_len}
 use Rattle.std.specs.Option.{option_map, option_map_or}
 use Rattle.std.specs.Str.{bytes_eq}
 use Rattle.semantics.specs.declared.element.Element.{Element}
@@ -53,6 +53,14 @@ no_element = Source [] [] [] []
 -- the device of this number
 abbrev pub device_of : DeckValue → ℕ → Element
 device_of d k = slice_index_or (devices d) k no_element
+
+-- the devices with their places among the elements
+unfoldable pub placed_devices : DeckValue → List (ℕ × Element)
+placed_devices d = filter (λ at. is_device at.1) (enumerate_from 0 d.elements)
+
+-- the place of the device of this number
+abbrev pub place_of : DeckValue → ℕ → ℕ
+place_of d k = (slice_index_or (placed_devices d) k (0, no_element)).0
 
 -- the devices at a node, gates included, by rising numbers
 unfoldable pub near_of : DeckValue → List ℕ → List ℕ

@@ -13,10 +13,8 @@ use Rattle.semantics.specs.Part.{listed_current}
 use Rattle.semantics.specs.Valid.{some_ohms}
 use Rattle.device_tables.specs.Table.{TableValue}
 use Rattle.circuit_model.specs.declared.device.TheConstants.{HALF}
-use Rattle.circuit_model.specs.declared.device.DeviceTable.{DeviceTable}
-use Rattle.circuit_model.specs.declared.device.DeviceTable.TheVariants as tables
 use Rattle.circuit_model.specs.declared.device.Law.{Law}
-use Rattle.circuit_model.specs.declared.device.Law.TheVariants as kept
+use Rattle.circuit_model.specs.declared.device.Law.TheVariants as laws
 use Rattle.circuit_model.specs.declared.ends.Ends.{Ends}
 use Rattle.circuit_model.specs.Ends.{End, cell_across, ends_in, is_inside}
 use Rattle.device_tables.specs.Level.{part_table}
@@ -28,13 +26,9 @@ pub data DeviceLaw : Type 0 where
   Ohms : ℤ → DeviceLaw
   Gated : TableValue → DeviceLaw
 
-abbrev pub table_in : DeviceTable → TableValue
-table_in (tables.Listed table) = table.now
-table_in (tables.Level table) = table
-
 abbrev pub law_of : Law → DeviceLaw
-law_of (kept.Ohms ohms) = Ohms ohms
-law_of (kept.Gated table) = Gated (table_in table)
+law_of (laws.Ohms ohms) = Ohms ohms
+law_of (laws.Gated table) = Gated table.now
 
 -- a device by its place among the elements, with its ends by number
 pub record DeviceValue : Type 0 where

@@ -4,13 +4,16 @@ ghost use Rattle.semantics.specs.Deck.{capacity, driver, initial_of, nodes};
 ghost use Rattle.semantics.specs.Device.{current_in};
 ghost use Rattle.semantics.specs.Valid.{is_source, is_valid};
 ghost use Rattle.node_ramps.specs.Lines.{InBounds};
+ghost use Rattle.circuit_model.specs.Circuit.{IsNumbered};
 ghost use Rattle.circuit_model.specs.Drive.{drive_of, IsNextTurn};
 ghost use Rattle.circuit_model.specs.Ends.{ends_in, number};
 ghost use Rattle.circuit_model.specs.Names.{with_nodes, AreNames, HasNodes};
-ghost use Rattle.circuit_model.specs.Numbers.{axes, device_of, devices, drain_grid_of, gate_grid_of, kind_at, name_at, near_of, place_at, HasCells};
+ghost use Rattle.circuit_model.specs.Numbers.{axes, device_of, devices, drain_grid_of, gate_grid_of, kind_at, name_at, near_of, place_at, place_of, HasCells};
+ghost use Rattle.circuit_model.specs.Wiring.{is_wired};
 
-use crate::device::{Device, HALF, devices_of};
+use crate::device::{Device, HALF};
 use crate::ends::Ends;
+use crate::kept_device::{KeptDevice, kept_devices};
 use crate::near::Near;
 use crate::node_kind::NodeKind;
 use crate::node_names::NodeNames;
@@ -37,60 +40,57 @@ fn places_of(
     Ok(places)
 }
 
-/// A deck with its nodes and devices by numbers, for runs that go from node to node. Nodes have the numbers of their
+/// A deck with its nodes and devices by numbers, for runs that go from node to node. It has its share of the deck. Nodes have the numbers of their
 /// names, and the devices are the deck's resistors and MOS devices, numbered from 0 in the order of its elements. A
 /// contract sees the deck and the names, and each call answers what the definitions say of the name of a number.
 #[derive(Drop)]
-pub struct Circuit<'a> {
-    deck: &'a Deck,
+pub struct Circuit {
+    deck: Deck,
     names: NodeNames,
     /// The grid of a resistor's voltage.
     grid: Grid,
-    devices: Vec<Device<'a>>,
+    /// What is kept of each device beside the deck.
+    devices: Vec<KeptDevice>,
     /// The place of each name among the nodes of the deck.
     places: Vec<Option<usize>>,
     /// The devices at each name.
     near: Near,
 }
 
-impl<'a> Model for Circuit<'a> {
+impl Model for Circuit {
     ghost use Rattle.circuit_model.specs.Numbers.{CircuitValue};
     ghost use Rattle.circuit_model.specs.Circuit.{IsCircuit};
 
     ghost Value = { CircuitValue };
 
-    ghost view = { λ c. record { deck = c.deck.now; names = c.names } };
+    ghost view = { λ c. record { deck = c.deck; names = c.names } };
 
-    ghost invariant = { λ c. IsCircuit c.deck.now c.names c.grid c.devices.items c.places.items c.near };
+    ghost invariant = { λ c. IsCircuit c.deck c.names c.grid c.devices.items c.places.items c.near };
 }
 
-impl<'a> Circuit<'a> {
+impl Circuit {
     /// The circuit of a deck. The names grow by those of its nodes that are new, in their order. It fails only for want
     /// of memory, and the names are then as they were.
-    pub fn of(
-        alloc: Global,
-        deck: &'a Deck,
-        names: &mut NodeNames,
-    ) -> Result<Circuit<'a>, AllocError>
+    pub fn of(alloc: Global, deck: &Deck, names: &mut NodeNames) -> Result<Circuit, AllocError>
         requires room { length names.old + length (nodes deck.now) < 2 ^ 32 }
         ensures circuit { IfOk result (λ c. c ≡ record { deck = deck.now; names = names.new }) }
         ensures names { OnOk result (names.new ≡ with_nodes names.old deck.now) }
         ensures unchanged { OnErr result (names.new ≡ names.old) }
     {
         let grown = names.with_nodes(alloc, deck)?;
-        let circuit = Circuit::named(alloc, deck, grown.copy()?)?;
+        let circuit = Circuit::named(alloc, deck.share()?, grown.copy()?)?;
         *names = grown;
         Ok(circuit)
     }
 
     /// The circuit of a deck under these names, which have each of its nodes.
-    fn named(alloc: Global, deck: &'a Deck, names: NodeNames) -> Result<Circuit<'a>, AllocError>
-        requires { HasNodes deck.now names }
-        ensures { IfOk result (λ c. c ≡ record { deck = deck.now; names = names }) }
+    fn named(alloc: Global, deck: Deck, names: NodeNames) -> Result<Circuit, AllocError>
+        requires { HasNodes deck names }
+        ensures { IfOk result (λ c. c ≡ record { deck = deck; names = names }) }
     {
         let grid = Grid::uniform(deck.grain(), HALF);
-        let devices = devices_of(alloc, deck, &names)?;
-        let places = places_of(alloc, deck, &names)?;
+        let devices = kept_devices(alloc, &deck, &names)?;
+        let places = places_of(alloc, &deck, &names)?;
         let near = Near::of(alloc, names.len(), &devices)?;
         Ok(Circuit {
             deck,
@@ -204,12 +204,23 @@ impl<'a> Circuit<'a> {
         next_turn(wave, tick, self.deck.stop())
     }
 
+    /// The device of a number.
+    fn device(&self, device: u32) -> Device
+        requires { device < length (devices self.now.deck) }
+        ensures device { IsNumbered self.now.deck self.now.names device result }
+        ensures place { result.place ≡ place_of self.now.deck device }
+        ensures wired { IsTrue (is_wired (length self.now.names) result) }
+        ensures valid { IsTrue (is_valid self.now.deck) }
+    {
+        self.devices[device as usize].read(&self.deck)
+    }
+
     /// Where the ends of a device lead.
     pub fn ends(&self, device: u32) -> Ends
         requires { device < length (devices self.now.deck) }
         ensures { result ≡ ends_in self.now.names (device_of self.now.deck device) }
     {
-        self.devices[device as usize].ends()
+        self.device(device).ends()
     }
 
     /// The grid of gate minus source. `None` exactly for a resistor.
@@ -217,7 +228,7 @@ impl<'a> Circuit<'a> {
         requires { device < length (devices self.now.deck) }
         ensures { option_map (λ grid. grid.now) result ≡ gate_grid_of self.now.deck (device_of self.now.deck device) }
     {
-        match self.devices[device as usize].table() {
+        match self.device(device).table() {
             None => None,
             Some(table) => Some(table.gate()),
         }
@@ -228,10 +239,26 @@ impl<'a> Circuit<'a> {
         requires { device < length (devices self.now.deck) }
         ensures { result.now ≡ drain_grid_of self.now.deck (device_of self.now.deck device) }
     {
-        match self.devices[device as usize].table() {
+        match self.device(device).table() {
             None => &self.grid,
             Some(table) => table.drain(),
         }
+    }
+
+    /// The place of a device among the elements of the deck, from 0 on.
+    pub fn device_place(&self, device: u32) -> u32
+        requires { device < length (devices self.now.deck) }
+        ensures { result ≡ place_of self.now.deck device }
+    {
+        self.device(device).place()
+    }
+
+    /// The cells of a device as its events have them, from those of its two axes: a resistor has that of the drain, and 0.
+    pub fn axes(&self, device: u32, gate_cell: u32, drain_cell: u32) -> (u32, u32)
+        requires { device < length (devices self.now.deck) }
+        ensures { result ≡ axes (device_of self.now.deck device) gate_cell drain_cell }
+    {
+        self.device(device).axes(gate_cell, drain_cell)
     }
 
     /// What flows through a device in these cells, in picoamperes, out of its first end into its second, at most 1 A in
@@ -242,7 +269,7 @@ impl<'a> Circuit<'a> {
         ensures value { result ≡ current_in self.now.deck (device_of self.now.deck device) (axes (device_of self.now.deck device) gate_cell drain_cell) }
         ensures small { unsigned_abs result ≤ 10 ^ 12 }
     {
-        let device = &self.devices[device as usize];
+        let device = self.device(device);
         let cells = device.axes(gate_cell, drain_cell);
         device.current(self.deck.grain(), cells)
     }

@@ -1,70 +1,30 @@
-ghost use Rattle.std.specs.Prelude.{◌≡◌, ◌≤◌, ◌<◌, ◌^◌, ◌+ℤ◌, ◌*◌, ℕ, pos, unsigned_abs, if◌then◌else◌, length, slice_get, slice_index_or, All, IfOk, IfSome, IsTrue};
+ghost use Rattle.std.specs.Prelude.{◌≡◌, ◌≤◌, ◌^◌, ◌+ℤ◌, ◌*◌, ℕ, pos, unsigned_abs, if◌then◌else◌, length, slice_index_or, All, IsTrue};
 ghost use Rattle.std.specs.Option.{option_map};
-ghost use Rattle.semantics.specs.Valid.{is_part, is_valid, some_grain, some_metres};
-ghost use Rattle.device_tables.specs.Level.{part_table};
-ghost use Rattle.deck_cards.specs.Part.{part_of};
+ghost use Rattle.semantics.specs.Valid.{some_grain};
 ghost use Rattle.circuit_model.specs.Ends.{is_inside, volts_at};
 ghost use Rattle.circuit_model.specs.Small.{IsSmall};
-ghost use Rattle.circuit_model.specs.Wiring.{device_at, device_cells, device_current, devices_of, has_cells, inflow, is_wired, law_axes, leads_to, ohmic_grid, table_in, table_of};
+ghost use Rattle.circuit_model.specs.Wiring.{device_cells, device_current, has_cells, inflow, is_wired, law_axes, law_of, leads_to, ohmic_grid, table_of};
 
 use crate::end::cell_across;
 use crate::ends::{End, Ends};
-use crate::node_names::NodeNames;
-use deck_cards::{Deck, Part};
 use device_tables::{Grid, Table, resistor};
-use semantics::{Element, Fraction};
-use std::alloc::{AllocError, Global};
+use semantics::Fraction;
 use std::marker::Model;
 
 /// Half the thresholds of a resistor's grid, and its middle cell, where no current flows.
 pub(crate) const HALF: u32 = 4096;
 
-/// The table of a MOS device.
-#[derive(Drop)]
-enum DeviceTable<'a> {
-    /// A listed table, which the deck keeps.
-    Listed(&'a Table),
-    /// That of a model for the device's width and length, which is the device's own.
-    Level(Table),
-}
-
-impl<'a> DeviceTable<'a> {
-    /// The table of a part for a device of this width and length, in picometres.
-    fn of(part: &'a Part, width: i64, length: i64, grain: u32) -> DeviceTable<'a>
-        requires part { IsTrue (is_part (part_of part.now)) }
-        requires width { IsTrue (some_metres width) }
-        requires length { IsTrue (some_metres length) }
-        requires grain { IsTrue (some_grain grain) }
-        ensures { table_in result ≡ part_table grain (part_of part.now) width length }
-    {
-        match part {
-            Part::Listed(table) => DeviceTable::Listed(table),
-            Part::Level { channel, vto, kp } => {
-                DeviceTable::Level(Table::level_one(*channel, *vto, *kp, width, length, grain))
-            }
-        }
-    }
-
-    fn table(&self) -> &Table
-        ensures { result.now ≡ table_in self.now }
-    {
-        match self {
-            DeviceTable::Listed(table) => table,
-            DeviceTable::Level(table) => table,
-        }
-    }
-}
-
 /// What sets the current of a device.
-#[derive(Drop)]
-enum Law<'a> {
+#[derive(Clone, Copy)]
+pub(crate) enum Law<'a> {
     /// The resistance in milliohms.
     Ohms(i64),
     /// The current in each pair of cells.
-    Gated(DeviceTable<'a>),
+    Gated(&'a Table),
 }
 
-/// A resistor or MOS device, with its ends by node numbers.
+/// A resistor or MOS device, with its ends by node numbers. What sets its current lies in its deck or with the device
+/// that is kept.
 #[derive(Drop)]
 pub struct Device<'a> {
     /// Its place among the elements of the deck.
@@ -82,50 +42,11 @@ impl<'a> Model for Device<'a> {
 }
 
 impl<'a> Device<'a> {
-    /// The device of the element at this place, where it is one.
-    fn at(deck: &'a Deck, names: &NodeNames, place: usize) -> Option<Device<'a>>
-        requires valid { IsTrue (is_valid deck.now) }
-        requires place { place < length deck.now.elements }
-        ensures { IfSome (slice_get deck.now.elements place) (λ e. result ≡ device_at deck.now names.now place e) }
+    /// The device at this place among the elements, with these ends.
+    pub(crate) fn of(place: u32, ends: Ends, law: Law<'a>) -> Device<'a>
+        ensures { result ≡ record { place = place; ends = ends; law = law_of law.entry } }
     {
-        let (ends, law) = match deck.element(place) {
-            Element::Resistor {
-                first,
-                second,
-                ohms,
-                ..
-            } => {
-                let ends = Ends {
-                    first: names.find(first),
-                    second: names.find(second),
-                    gate: None,
-                };
-                (ends, Law::Ohms(*ohms))
-            }
-            Element::Mos {
-                drain,
-                gate,
-                source,
-                part,
-                length,
-                width,
-                ..
-            } => {
-                let table = DeviceTable::of(deck.part(part)?, *width, *length, deck.grain());
-                let ends = Ends {
-                    first: names.find(drain),
-                    second: names.find(source),
-                    gate: names.find(gate),
-                };
-                (ends, Law::Gated(table))
-            }
-            Element::Capacitor { .. } | Element::Source { .. } => return None,
-        };
-        Some(Device {
-            place: place as u32,
-            ends,
-            law,
-        })
+        Device { place, ends, law }
     }
 
     /// Its place among the elements of the deck.
@@ -155,23 +76,20 @@ impl<'a> Device<'a> {
         } = self.ends;
         match &self.law {
             Law::Ohms(_) => (cell_across(grid, volts, first, second), 0),
-            Law::Gated(table) => {
-                let table = table.table();
-                (
-                    cell_across(table.gate(), volts, gate, second),
-                    cell_across(table.drain(), volts, first, second),
-                )
-            }
+            Law::Gated(table) => (
+                cell_across(table.gate(), volts, gate, second),
+                cell_across(table.drain(), volts, first, second),
+            ),
         }
     }
 
     /// Its table; a resistor has none.
-    pub(crate) fn table(&self) -> Option<&Table>
+    pub(crate) fn table(&self) -> Option<&'a Table>
         ensures { option_map (λ table. table.now) result ≡ table_of self.now.law }
     {
         match &self.law {
             Law::Ohms(_) => None,
-            Law::Gated(table) => Some(table.table()),
+            Law::Gated(table) => Some(table),
         }
     }
 
@@ -195,7 +113,7 @@ impl<'a> Device<'a> {
     {
         match &self.law {
             Law::Ohms(ohms) => resistor(grain, *ohms, cells.0),
-            Law::Gated(table) => table.table().current(cells.0, cells.1),
+            Law::Gated(table) => table.current(cells.0, cells.1),
         }
     }
 
@@ -221,22 +139,4 @@ fn add_current(rates: &mut [i128], end: End, amps: i64)
     if let Some(node) = end {
         rates[node as usize] += i128::from(amps);
     }
-}
-
-/// The devices of a deck, by their places among its elements, where its nodes have the numbers of these names.
-pub(crate) fn devices_of<'a>(
-    alloc: Global,
-    deck: &'a Deck,
-    names: &NodeNames,
-) -> Result<Vec<Device<'a>>, AllocError>
-    requires { IsTrue (is_valid deck.now) }
-    ensures { IfOk result (λ devices. devices.items ≡ devices_of deck.now names.now) }
-{
-    let mut devices = Vec::new(alloc);
-    for place in 0..deck.len() {
-        if let Some(device) = Device::at(deck, names, place) {
-            devices.push(device)?;
-        }
-    }
-    Ok(devices)
 }

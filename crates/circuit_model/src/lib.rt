@@ -7,6 +7,7 @@ mod drive;
 mod end;
 mod ends;
 mod events;
+mod kept_device;
 mod near;
 mod network;
 mod node_kind;

@@ -2,10 +2,10 @@ ghost use Rattle.std.specs.Prelude.{◌≡◌, ◌≤◌, ◌<◌, ◌++◌, ◌
 ghost use Rattle.std.specs.List.{list_all};
 ghost use Rattle.circuit_model.specs.Ends.{is_inside};
 ghost use Rattle.circuit_model.specs.Near.{ends_at, AreNoted, HaveNoted};
-ghost use Rattle.circuit_model.specs.Wiring.{are_inside, is_wired, leads_to};
+ghost use Rattle.circuit_model.specs.Wiring.{are_inside, leads_to};
 
-use crate::device::Device;
 use crate::ends::{End, Ends};
+use crate::kept_device::KeptDevice;
 use std::alloc::{AllocError, Global};
 use std::marker::Model;
 
@@ -84,8 +84,12 @@ impl Near {
     }
 
     /// The devices at the nodes to which their ends lead, each once, by rising numbers.
-    pub(crate) fn of(alloc: Global, count: usize, devices: &[Device]) -> Result<Near, AllocError>
-        requires wired { list_all (is_wired count) devices.now ≡ true }
+    pub(crate) fn of(
+        alloc: Global,
+        count: usize,
+        devices: &[KeptDevice],
+    ) -> Result<Near, AllocError>
+        requires inside { list_all (λ d. are_inside count d.ends) devices.now ≡ true }
         requires few { length devices.now ≤ 100000 }
         ensures { IfOk result (HaveNoted (map (λ d. d.ends) devices.now) (length devices.now) count) }
     {

@@ -1,16 +1,17 @@
-ghost use Rattle.std.specs.Prelude.{◌≡◌, ◌<◌, ◌+◌, ℕ, pos, length, map, slice_index_or, IsTrue, IfOk, OnOk};
+ghost use Rattle.std.specs.Prelude.{◌≡◌, ◌<◌, ◌+◌, ℕ, pos, length, map, slice_index_or, IsTrue, IfOk, OnOk, Some};
 ghost use Rattle.semantics.specs.Deck.{nodes};
 ghost use Rattle.semantics.specs.Event.{events_to};
 ghost use Rattle.semantics.specs.Run.{run};
 ghost use Rattle.semantics.specs.Valid.{is_valid};
 ghost use Rattle.semantics.specs.Wave.{rate};
+ghost use Rattle.circuit_model.specs.Kept.{device_in};
 ghost use Rattle.circuit_model.specs.Network.{cells_at};
 ghost use Rattle.circuit_model.specs.Wiring.{devices_of, inflows, ohmic_grid};
 
-use crate::device::{Device, HALF, devices_of};
+use crate::device::{Device, HALF};
 use crate::drive::driven_rate;
 use crate::events::Events;
-use crate::node_names::NodeNames;
+use crate::kept_device::{KeptDevice, read_devices};
 use deck_cards::Deck;
 use device_tables::Grid;
 use semantics::Fraction;
@@ -38,13 +39,17 @@ impl<'a> Model for Network<'a> {
 }
 
 impl<'a> Network<'a> {
-    /// The devices of a deck, and the deck.
-    pub(crate) fn of(alloc: Global, deck: &'a Deck) -> Result<Network<'a>, AllocError>
+    /// A deck, and what is kept of its devices by the places of its nodes.
+    pub(crate) fn of(
+        alloc: Global,
+        deck: &'a Deck,
+        kept: &'a [KeptDevice],
+    ) -> Result<Network<'a>, AllocError>
+        requires { map (device_in deck.now) kept.now ≡ map Some (devices_of deck.now (nodes deck.now)) }
         ensures { IfOk result (λ network. network ≡ deck.now) }
     {
         let grid = Grid::uniform(deck.grain(), HALF);
-        let names = NodeNames::new().with_nodes(alloc, deck)?;
-        let devices = devices_of(alloc, deck, &names)?;
+        let devices = read_devices(alloc, deck, kept)?;
         Ok(Network {
             deck,
             grid,

@@ -7,6 +7,7 @@ ghost use Rattle.circuit_model.specs.Carried.{HasVoltage};
 ghost use Rattle.circuit_model.specs.Lines.{continued, line_of};
 
 use crate::events::Events;
+use crate::kept_device::plain_devices;
 use crate::network::Network;
 use crate::volts::{advance, first_volts};
 use crate::waves::Waves;
@@ -107,9 +108,11 @@ pub fn tick_run(alloc: Global, deck: &Deck) -> Result<Ran, AllocError>
     ensures events { IfOk result (λ ran. ran.events ≡ events deck.now) }
     ensures denominators { IfOk result (λ ran. All (λ lines. All (λ l. 1 ≤ l.den) lines) ran.waves) }
 {
-    let network = Network::of(alloc, deck)?;
+    let stop = deck.stop();
+    let kept = plain_devices(alloc, deck)?;
+    let network = Network::of(alloc, deck, &kept)?;
     let mut ticks = Ticks::start(alloc, &network)?;
-    for tick in 0..deck.stop() {
+    for tick in 0..stop {
         ticks.step(&network, tick)?;
     }
     Ok(Ran {

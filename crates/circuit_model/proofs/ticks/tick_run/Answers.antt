@@ -37,10 +37,10 @@ whole_voltages d waves l are i t inside up_to =
 pub returns : goal.returns
 returns c =
     let d : DeckValue = c.args.deck.now in
-    let end : c.loop-tick.tick ≡ d.stop = omega (arith, c.stop-tick-end.ensures.value, c.loop-tick.auto.tick-end, c.loop-tick-test.false) in
+    let end : c.loop-tick.tick ≡ d.stop = omega (arith, c.stop-stop.ensures.value, c.loop-tick.auto.tick-end, c.loop-tick-test.false) in
     record {
       waves = whole_waves d c.loop-tick.tick c.loop-tick.ticks.waves end c.loop-tick.invariant.waves;
-      voltages = whole_voltages d c.loop-tick.ticks.waves (limits d c.stop-tick-end.ensures.valid) (whole_waves d c.loop-tick.tick c.loop-tick.ticks.waves end c.loop-tick.invariant.waves);
+      voltages = whole_voltages d c.loop-tick.ticks.waves (limits d c.stop-stop.ensures.valid) (whole_waves d c.loop-tick.tick c.loop-tick.ticks.waves end c.loop-tick.invariant.waves);
       events = whole_events d c.loop-tick.tick c.loop-tick.ticks.events end c.loop-tick.invariant.events;
-      denominators = whole_dens d c.loop-tick.ticks.waves (limits d c.stop-tick-end.ensures.valid) (whole_waves d c.loop-tick.tick c.loop-tick.ticks.waves end c.loop-tick.invariant.waves);
+      denominators = whole_dens d c.loop-tick.ticks.waves (limits d c.stop-stop.ensures.valid) (whole_waves d c.loop-tick.tick c.loop-tick.ticks.waves end c.loop-tick.invariant.waves);
     }

@@ -8,7 +8,7 @@ use Rattle.circuit_model.proofs.circuit.Circuit.capacity.Goals as goal
 
 pub returns-clause-some : goal.returns-clause-some
 returns-clause-some c =
-    let here : CircuitValue = record { deck = c.self.inside.deck.now; names = c.self.inside.names } in
+    let here : CircuitValue = record { deck = c.self.inside.deck; names = c.self.inside.names } in
     let free = rw (← c.self.view_is) at c.requires.free in
     let place = rw (← c.self.view_is) at c.place.ensures in
     let value = at_name here.deck (name_at here c.args.node) c.place.result (λ n. c.capacity.result ≡ capacity here.deck n) place c.capacity.ensures in
@@ -16,7 +16,7 @@ returns-clause-some c =
 
 pub returns-clause-most : goal.returns-clause-most
 returns-clause-most c =
-    let here : CircuitValue = record { deck = c.self.inside.deck.now; names = c.self.inside.names } in
+    let here : CircuitValue = record { deck = c.self.inside.deck; names = c.self.inside.names } in
     let free = rw (← c.self.view_is) at c.requires.free in
     let place = rw (← c.self.view_is) at c.place.ensures in
     let value = at_name here.deck (name_at here c.args.node) c.place.result (λ n. c.capacity.result ≡ capacity here.deck n) place c.capacity.ensures in

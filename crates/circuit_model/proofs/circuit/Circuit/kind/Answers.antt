@@ -11,7 +11,7 @@ returns-in-None c = sym (kind_none c.args.self.now c.args.node (sym c.find_place
 
 pub returns-in-Some : goal.returns-in-Some
 returns-in-Some c =
-    let d : DeckValue = c.self.inside.deck.now in
+    let d : DeckValue = c.self.inside.deck in
     let n : List ℕ = name_at c.args.self.now c.args.node in
     let deck : d ≡ c.args.self.now.deck = ap (λ (x : CircuitValue). x.deck) c.self.view_is in
     let has = kind_some c.args.self.now c.args.node c.in-Some.place (sym c.find_place.ensures ∙ c.in-Some.is) in
@@ -21,7 +21,7 @@ returns-in-Some c =
 
 pub returns-in-Some-2 : goal.returns-in-Some-2
 returns-in-Some-2 c =
-    let d : DeckValue = c.self.inside.deck.now in
+    let d : DeckValue = c.self.inside.deck in
     let n : List ℕ = name_at c.args.self.now c.args.node in
     let deck : d ≡ c.args.self.now.deck = ap (λ (x : CircuitValue). x.deck) c.self.view_is in
     let has = kind_some c.args.self.now c.args.node c.in-Some.place (sym c.find_place.ensures ∙ c.in-Some.is) in

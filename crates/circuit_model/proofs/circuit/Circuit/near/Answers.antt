@@ -17,5 +17,5 @@ pub returns-clause-inside : goal.returns-clause-inside
 returns-clause-inside c =
     let below = rw (← c.self.view_is) at c.requires in
     let names : List (List ℕ) = c.self.inside.names in
-    let is = at_place c.self.inside.near names (near_of c.self.inside.deck.now) c.args.node c.at.result.now c.self.invariant.near_are below c.at.ensures in
-    rw (← c.self.view_is) (subst (All (λ k. k < length (devices c.self.inside.deck.now))) (sym is) (near_inside c.self.inside.deck.now (get_or names c.args.node [])))
+    let is = at_place c.self.inside.near names (near_of c.self.inside.deck) c.args.node c.at.result.now c.self.invariant.near_are below c.at.ensures in
+    rw (← c.self.view_is) (subst (All (λ k. k < length (devices c.self.inside.deck))) (sym is) (near_inside c.self.inside.deck (get_or names c.args.node [])))

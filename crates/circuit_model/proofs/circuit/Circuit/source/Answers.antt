@@ -8,7 +8,7 @@ use Rattle.circuit_model.proofs.circuit.Circuit.source.Goals as goal
 
 pub unwrap-requires : goal.unwrap-requires
 unwrap-requires c =
-    let here : CircuitValue = record { deck = c.self.inside.deck.now; names = c.self.inside.names } in
+    let here : CircuitValue = record { deck = c.self.inside.deck; names = c.self.inside.names } in
     let driven = rw (← c.self.view_is) at c.requires in
     let place = rw (← c.self.view_is) at c.place.ensures in
     let is = driver_is here.deck (name_at here c.args.node) c.place.result (λ s. (s.0.now, s.1)) c.drive.result place c.drive.ensures in
@@ -16,7 +16,7 @@ unwrap-requires c =
 
 pub returns-clause-source : goal.returns-clause-source
 returns-clause-source c =
-    let here : CircuitValue = record { deck = c.self.inside.deck.now; names = c.self.inside.names } in
+    let here : CircuitValue = record { deck = c.self.inside.deck; names = c.self.inside.names } in
     let place = rw (← c.self.view_is) at c.place.ensures in
     let is = driver_is here.deck (name_at here c.args.node) c.place.result (λ s. (s.0.now, s.1)) c.drive.result place c.drive.ensures in
     let source : List (ℕ × ℤ) × Bool = (c.unwrap.result.0.now, c.unwrap.result.1) in

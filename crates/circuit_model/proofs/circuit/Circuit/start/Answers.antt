@@ -16,7 +16,7 @@ product_small farads volts most small = rw (unsigned_abs-mul (pos farads) volts)
 
 pub returns-clause-small : goal.returns-clause-small
 returns-clause-small c =
-    let here : CircuitValue = record { deck = c.self.inside.deck.now; names = c.self.inside.names } in
+    let here : CircuitValue = record { deck = c.self.inside.deck; names = c.self.inside.names } in
     let n : List ℕ = name_at here c.args.node in
     let free = rw (← c.self.view_is) at c.requires.free in
     let place = rw (← c.self.view_is) at c.place-place.ensures in

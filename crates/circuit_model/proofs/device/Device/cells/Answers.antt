@@ -9,4 +9,4 @@ returns-in-Ohms c = λ grain same. rw (← c.self.view_is, c.in-Ohms.is, c.cell_
 
 pub returns-in-Gated : goal.returns-in-Gated
 unfolding device_cells
-returns-in-Gated c = λ grain same. rw (← c.self.view_is, c.in-Gated.is, c.cell_across-in-Gated.ensures, c.cell_across-in-Gated-2.ensures, c.gate.ensures.grid, c.drain.ensures.grid, c.table-table.ensures) refl
+returns-in-Gated c = λ grain same. rw (← c.self.view_is, c.in-Gated.is, c.cell_across-in-Gated.ensures, c.cell_across-in-Gated-2.ensures, c.gate.ensures.grid, c.drain.ensures.grid) refl

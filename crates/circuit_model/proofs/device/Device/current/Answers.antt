@@ -23,4 +23,4 @@ unfolding device_current
 returns-in-Gated-clause-value c =
     let r : ℤ = c.current.result in
     let fits : FitsSigned w64 r = record { sfits = c.current.type_inv } in
-    rw (to_z-of_z w64 r fits, c.current.ensures.value, c.table.ensures, ← c.self.view_is, c.in-Gated.is) refl
+    rw (to_z-of_z w64 r fits, c.current.ensures.value, ← c.self.view_is, c.in-Gated.is) refl
