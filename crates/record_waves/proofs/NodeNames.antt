@@ -10,9 +10,11 @@ use Rattle.semantics.proofs.Free.{free_real, free_undriven, node_is}
 use Rattle.semantics.proofs.Limits.{Limits}
 use Rattle.histories.specs.Record.{RecordValue, pair_at}
 use Rattle.circuit_model.specs.declared.node_kind.NodeKind.TheVariants.{Absent, Driven, Free}
+use Rattle.circuit_model.specs.Names.{AreNames}
 use Rattle.circuit_model.specs.Numbers.{CircuitValue, kind_at, kind_of, name_at}
 use Rattle.circuit_model.proofs.NodeKinds.{driven_some, held_here, kind_free, kind_here, kind_inside}
-use Rattle.record_waves.specs.RunRecord as record_of
+use Rattle.record_laws.proofs.Numbers.{named_at}
+use Rattle.record_waves.specs.RunRecord as whole
 use Rattle.record_waves.proofs.DrivenWaves.{IsDriven}
 use Rattle.record_waves.proofs.FreeWaves.{IsRunOf}
 
@@ -40,8 +42,8 @@ driven_is c node driven =
     (source.0, record { real = real_name c.deck (name_at c node) (λ absent. let e = sym (kind_here c node inside) ∙ driven in cc); driven = source.1 })
 
 -- a free node of a record of the run
-pub free_is : (c : CircuitValue) (r : RecordValue) (node : ℕ) → Limits c.deck → record_of.IsRunOf c r → kind_at c node ≡ Free → IsRunOf c.deck (name_at c node) (pair_at r node) c.deck.stop
-free_is c r node limits run free =
+pub free_is : (c : CircuitValue) (r : RecordValue) (node : ℕ) → Limits c.deck → AreNames c.names → whole.IsRunOf c r → kind_at c node ≡ Free → IsRunOf c.deck (name_at c node) (pair_at r node) c.deck.stop
+free_is c r node limits names run free =
     let inside = kind_inside c node (λ absent. cc) in
     let among = kind_free c.deck (name_at c node) (sym (kind_here c node inside) ∙ free) in
     record {
@@ -49,5 +51,5 @@ free_is c r node limits run free =
       held = held_here c node limits free;
       real = free_real c.deck (name_at c node) among;
       free = free_undriven c.deck (name_at c node) among;
-      run = λ t h. run.run node t free h;
+      run = λ t h. sym (named_at c.names (pair_at r) node t (λ j before. names.apart j node before inside) inside) ∙ run.run (name_at c node) t among h;
     }

@@ -23,6 +23,7 @@ pub fn wave(
 {
     let stop = circuit.stop();
     prove!(0 < stop);
+    circuit.node_count();
     match circuit.kind(node) {
         NodeKind::Free => past.canonical(node),
         NodeKind::Driven | NodeKind::Absent => driven_wave(alloc, circuit, node),

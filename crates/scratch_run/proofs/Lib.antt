@@ -1,4 +1,4 @@
-pub mod ByNames
-pub mod Starting
-pub mod Splicing
+pub mod Counted
+pub mod Numbers
+pub mod Put
 pub mod Whole

@@ -1,2 +1,3 @@
-pub mod First
 pub mod Splices
+pub mod Starts
+pub mod Waves

@@ -1,24 +1,17 @@
--- What a record has of the run, node after node.
-use Rattle.std.specs.Prelude.{◌≡◌, ◌⊎◌, ℕ, ◌<◌, ◌≤◌, true, List}
-use Rattle.semantics.specs.declared.line.Line.{Line}
-use Rattle.semantics.specs.Run.{run}
+-- Pieces that are put into a record.
+use Rattle.std.specs.Prelude.{◌≡◌, ℕ, ◌≤◌, true, List}
+use Rattle.std.specs.List.{All}
+use Rattle.histories.specs.Piece.{PieceValue}
 use Rattle.histories.specs.Record.{RecordValue, keeps, pair_at}
-use Rattle.histories.specs.Track as track
-use Rattle.circuit_model.specs.declared.node_kind.NodeKind.TheVariants.{Free}
-use Rattle.circuit_model.specs.Numbers.{CircuitValue, kind_at, name_at}
-use Rattle.scratch_run.specs.First.{Begins}
+use Rattle.window_run.specs.Window.{with_pieces}
 
--- the lines have the node's voltages in the run up to the stop
-abbrev pub IsRunOfNode : CircuitValue → ℕ → List Line → Type 0
-IsRunOfNode c node ls = (t : ℕ) → t ≤ c.deck.stop → track.pair ls t ≡ run c.deck t (name_at c node)
+-- a record keeps the node of a piece, and goes to the end of it
+pub record Takes (r : RecordValue) (p : PieceValue) : Type 0 where
+  pub kept : keeps r p.node ≡ true
+  pub until : p.until ≤ r.stop
 
--- the record keeps the node, and has its voltages up to the stop
-pub record Runs (c : CircuitValue) (r : RecordValue) (node : ℕ) : Type 0 where
-  pub kept : keeps r node ≡ true
-  pub run : (t : ℕ) → t ≤ c.deck.stop → pair_at r node t ≡ run c.deck t (name_at c node)
-
--- free nodes from this number on have the run, and those below it have begun
-pub record HasRunFrom (c : CircuitValue) (r : RecordValue) (low : ℕ) : Type 0 where
-  pub stop : r.stop ≡ c.deck.stop
-  pub runs : (i : ℕ) → low ≤ i → kind_at c i ≡ Free → Runs c r i
-  pub begins : (i : ℕ) → i < low → kind_at c i ≡ Free → Begins c r i
+-- the new record is the old one with these pieces
+pub record HasPut (old new : RecordValue) (ps : List PieceValue) : Type 0 where
+  pub stop : new.stop ≡ old.stop
+  pub kept : (i : ℕ) → keeps new i ≡ keeps old i
+  pub pairs : (i t : ℕ) → t ≤ old.stop → pair_at new i t ≡ with_pieces (pair_at old) ps i t

@@ -1,8 +1,8 @@
 //! The run of a whole circuit, from event to event.
 #![tactic(auto)]
 
-mod first;
 mod from_scratch;
 mod splices;
+mod starts;
 
 pub use from_scratch::scratch;

@@ -12,6 +12,7 @@ use node_ramps::Steps;
 use scratch_run::scratch;
 use std::alloc::{AllocError, Global};
 use std::marker::Brand;
+use std::sync::Arc;
 use std::sync::ledger::{Blank, Ledger};
 
 /// The waves of a deck. They come from a run by events; where the stop is tick 0 there is none to come, and the plain run
@@ -24,7 +25,7 @@ pub fn run_text(alloc: Global, deck: &Deck) -> Result<String, AllocError>
     }
     let mut names = NodeNames::new();
     let circuit = Circuit::of(alloc, deck, &mut names)?;
-    event_text::<Brand>(alloc, deck, &circuit, Blank::new(1))
+    event_text::<Brand>(alloc, deck, circuit, Blank::new(1))
 }
 
 /// The waves by the plain run. Its events are dropped before the text is made.
@@ -39,10 +40,10 @@ fn plain_text(alloc: Global, deck: &Deck) -> Result<String, AllocError>
 fn event_text<L: Ledger>(
     alloc: Global,
     deck: &Deck,
-    circuit: &Circuit,
+    circuit: Circuit,
     blank: Blank,
 ) -> Result<String, AllocError>
-    requires circuit { circuit.now ≡ record { deck = deck.now; names = nodes deck.now } }
+    requires circuit { circuit ≡ record { deck = deck.now; names = nodes deck.now } }
     requires stop { 0 < deck.now.stop }
     requires valid { IsTrue (is_valid deck.now) }
     requires name { blank.name ≡ L.name }
@@ -52,6 +53,7 @@ fn event_text<L: Ledger>(
 {
     let (book, share) = blank.open::<L>();
     let mut steps = Steps::of(book, share);
-    let past = scratch(alloc, circuit, &mut steps)?;
-    record_output(alloc, deck, circuit, &past)
+    let circuit = Arc::new(alloc, circuit)?;
+    let past = scratch(alloc, &circuit, &mut steps)?;
+    record_output(alloc, deck, &circuit, &past)
 }

@@ -7,7 +7,8 @@ use Rattle.std.proofs.lemmas.List.Sums.{sum_by_push}
 use Rattle.semantics.specs.declared.line.Line.{Line}
 use Rattle.node_ramps.specs.Lines.{num_at, turned, voltage, InBounds}
 use Rattle.window_run.specs.Net.{IsNet, Net}
-use Rattle.window_run.specs.Pieces.{IsPiece, SetsOut, line_count, line_of, no_line, piece_of}
+use Rattle.histories.specs.Track.{line_of, no_line}
+use Rattle.window_run.specs.Pieces.{IsPiece, OnlyFree, SetsOut, line_count, piece_of}
 use Rattle.window_run.specs.Stage.{AreBounded, AreLines, AreSlow, SameDriven, SameVolts}
 use Rattle.window_run.proofs.Flows.{back, front}
 use Rattle.window_run.proofs.Lines.{each, meets, not_driven, turned_in_bounds, turned_there}
@@ -30,7 +31,16 @@ pub record Out (net : Net) (from end n : ℕ) (rates : List ℤ) (first ls : Lis
   pub driven : SameDriven net first ls
   pub count : length ps ≡ n
   pub pieces : (i : ℕ) → i < n → net.free i ≡ true → IsPiece from (piece_of ps i) (line_of ls i)
+  pub only : OnlyFree net ps
   pub steps_are : steps ≡ first_steps + line_count ps
+
+-- another place than the last one
+other_place : (ps : List (List Line)) (xs : List Line) (i n : ℕ) → length ps ≡ n → i ≢ n → piece_of (ps ++ xs ∷ []) i ≡ piece_of ps i
+other_place [] xs zero n count d = absurd (d count)
+other_place [] xs (suc i) n count d = refl
+other_place (p ∷ ps) xs zero n count d = refl
+other_place (p ∷ ps) xs (suc i) zero count d = absurd (omega (arith, count))
+other_place (p ∷ ps) xs (suc i) (suc n) count d = other_place ps xs i n (omega (arith, count)) (λ (e : i ≡ n). d (ap suc e))
 
 -- what is true of the line of one more node
 record Next (net : Net) (from end n : ℕ) (rate : ℤ) (l new : Line) (xs : List Line) : Type 0 where
@@ -42,6 +52,7 @@ record Next (net : Net) (from end n : ℕ) (rate : ℤ) (l new : Line) (xs : Lis
   pub volts : voltage new from ≡ voltage l from
   pub driven : net.driven n ≡ true → new ≡ l
   pub piece : net.free n ≡ true → IsPiece from xs new
+  pub none : net.free n ≡ false → xs ≡ []
 
 one_piece : (from : ℕ) (l : Line) → l.start ≡ from → IsPiece from (l ∷ []) l
 one_piece from l e = record { some = omega arith; first = e; last = refl; turns = λ j h. absurd (omega (arith, h)) }
@@ -59,6 +70,7 @@ next_line net from end n rate l new xs true s t is free out order short started 
       volts = meets l from rate;
       driven = λ d. absurd (false≢true (sym (not_driven net n is free) ∙ d));
       piece = λ _. one_piece from (turned l from rate) refl;
+      none = λ f. absurd (false≢true (sym f ∙ free));
     })
 next_line net from end n rate l new xs false s t is free out order short started bounds begin num slow =
     rw out.line (record {
@@ -70,6 +82,7 @@ next_line net from end n rate l new xs false s t is free out order short started
       volts = refl;
       driven = λ d. refl;
       piece = λ f. absurd (false≢true (sym free ∙ f));
+      none = λ _. out.piece;
     })
 
 pub out_more : (net : Net) (from end n : ℕ) (rates : List ℤ) (first ls : List Line) (ps : List (List Line)) (s0 s t : ℕ) (rate : ℤ) (new : Line) (xs : List Line) (b : Bool) → IsNet net → net.free n ≡ b → rate ≡ get_or rates n (pos 0) → SetsOut b rate (line_of ls n) new xs s t →
@@ -100,6 +113,10 @@ out_more net from end n rates first ls ps s0 s t rate new xs b is free is_rate o
       pieces = λ i h f. ⊎_elim
           (λ (e : i ≡ n). rw (e, back ps xs [] n (sym old.count), get_or-set_same ls n new no_line inside) (next.piece (subst (λ j. net.free j ≡ true) e f)))
           (λ (d : i ≢ n). rw (front ps xs [] i (omega (arith, h, d, old.count)), get_or-set_other ls n i new no_line d) (old.pieces i (omega (arith, h, d)) f))
+          (cases_eq i n);
+      only = λ i f. ⊎_elim
+          (λ (e : i ≡ n). rw (e, back ps xs [] n (sym old.count)) (next.none (subst (λ j. net.free j ≡ false) e f)))
+          (λ (d : i ≢ n). other_place ps xs i n old.count d ∙ old.only i f)
           (cases_eq i n);
       steps_are = let sum = sum_by_push (λ (zs : List Line). length zs) ps xs in let a = out.steps in let z = old.steps_are in omega (arith, sum, a, z);
     }

@@ -12,7 +12,7 @@ use Rattle.node_ramps.specs.Lines.{voltage}
 use Rattle.crossing.specs.Crossing.{cell_at, IsCrossing, IsLeastCrossing}
 use Rattle.event_order.specs.Ticks.{Ticks}
 use Rattle.window_run.specs.Net.{Net, Cells, End, IsKnown, IsNet}
-use Rattle.window_run.specs.Pieces.{line_of}
+use Rattle.histories.specs.Track.{line_of}
 use Rattle.window_run.specs.Stage.{AreLater, Before, CellsBut, DuesBut, IsFrontier, IsWithin, Keeps, KnowsDue, LineSameOrNear, SameBut, SameVolts, Takes, cell_of, line_at, no_cells}
 use Rattle.window_run.proofs.Lines.{less, nothing, nothing_left, of_none}
 use Rattle.window_run.proofs.Waiting.{Scheduled, scheduled_there, scheduled_other, not_taken, no_tick, same_tick, some_later}

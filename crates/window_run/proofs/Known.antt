@@ -145,7 +145,7 @@ unfolding cell
 no_threshold v = refl
 
 -- the cell in no grid is 0
-gate_is : (o : Option (List ℤ)) (v : Fraction) → cell (unwrap_or o []) v ≡ option_map_or (λ grid. cell grid v) o 0
+pub gate_is : (o : Option (List ℤ)) (v : Fraction) → cell (unwrap_or o []) v ≡ option_map_or (λ grid. cell grid v) o 0
 gate_is None v = no_threshold v
 gate_is (Some grid) v = refl
 

@@ -8,3 +8,11 @@ pub mod Runs
 pub mod Sources
 pub mod Known
 pub mod Begin
+pub mod ByNames
+pub mod Mended
+pub mod Same
+pub mod Spliced
+pub mod Turning
+pub mod Events
+pub mod FirstLines
+pub mod Promises

@@ -13,7 +13,7 @@ use Rattle.node_ramps.specs.Lines.{num_at, turned, voltage, InBounds}
 use Rattle.node_ramps.proofs.Sums.{same_line}
 use Rattle.event_order.specs.Ticks.{Ticks}
 use Rattle.window_run.specs.Net.{IsNet, Net}
-use Rattle.window_run.specs.Pieces.{line_of, no_line}
+use Rattle.histories.specs.Track.{line_of, no_line}
 use Rattle.window_run.specs.Stage.{AreBounded, AreLines, AreSlow, BendsBut, Before, IsFrom, IsTrusted, LineSameOrNear, LinesBut, RateSameOrNoted, SameDriven, SameFree, SameVolts, Takes}
 use Rattle.window_run.proofs.Waiting.{Scheduled, not_taken, scheduled_there, scheduled_other}
 

@@ -3,12 +3,13 @@ use Rattle.std.proofs.Common.{◌≡◌, ◌≢◌, ℕ, zero, suc, ◌+◌, ◌
 use Rattle.std.specs.Prelude.{◌⊎◌, nat_le, sum_by}
 use Rattle.std.proofs.lemmas.List.Sums.{sum_by-cons}
 use Rattle.std.proofs.lemmas.List.{get_or-set_same, get_or-set_other, length-append}
-use Rattle.std.proofs.lemmas.Bool.{cases_eq, le-leb, lt-leb}
+use Rattle.std.proofs.lemmas.Bool.{cases_eq, false≢true, le-leb, lt-leb}
 use Rattle.semantics.specs.declared.fraction.Fraction.{Fraction}
 use Rattle.semantics.specs.declared.line.Line.{Line}
 use Rattle.node_ramps.specs.Lines.{num_at, turned, voltage}
 use Rattle.window_run.specs.Net.{Net}
-use Rattle.window_run.specs.Pieces.{Counts, IsPiece, PiecesGo, PiecesKept, Turns, in_force, last_of, line_count, line_of, no_line, pair, pairs, piece_of}
+use Rattle.histories.specs.Track.{in_force, line_of, no_line, pair}
+use Rattle.window_run.specs.Pieces.{Counts, IsPiece, OthersKept, PiecesGo, PiecesKept, Turns, last_of, line_count, pairs, piece_of}
 use Rattle.window_run.specs.Stage.{SameFree}
 use Rattle.window_run.proofs.Flows.{back, front}
 use Rattle.window_run.proofs.Lines.{meets}
@@ -91,6 +92,9 @@ kept_more net first ps now k xs beside same kept = λ i s below free upto. ⊎_e
     (λ (e : i ≡ k). rw (e, get_or-set_same ps k xs [] beside) (same s upto ∙ ap (λ j. pairs ps j s) (sym e) ∙ kept i s below free upto ∙ ap (λ j. pairs first j s) e))
     (λ (n : i ≢ k). rw (get_or-set_other ps k i xs [] n) (kept i s below free upto))
     (cases_eq i k)
+
+pub others_more : (net : Net) (first ps : List (List Line)) (k : ℕ) (xs : List Line) → net.free k ≡ true → OthersKept net first ps → OthersKept net first (set ps k xs)
+others_more net first ps k xs free kept i not_free = get_or-set_other ps k i xs [] (λ (e : i ≡ k). false≢true (sym not_free ∙ ap net.free e ∙ free)) ∙ kept i not_free
 
 sum_set : (ps : List (List Line)) (k : ℕ) (xs : List Line) → k < length ps → length xs ≡ length (piece_of ps k) + 1 → line_count (set ps k xs) ≡ line_count ps + 1
 sum_set [] k xs h e = absurd (omega (arith, h))

@@ -11,7 +11,8 @@ use Rattle.node_ramps.specs.Lines.{num_at, turned, voltage}
 use Rattle.node_ramps.proofs.Sums.{same_line}
 use Rattle.event_order.specs.Ticks.{Ticks}
 use Rattle.window_run.specs.Net.{Bends, Cells, Changes, End, HasEventTicks, IsEventTick, IsKnown, IsNet, IsRun, Net, cells_in, charged, current_at, driven_pair, ground, inflows, volts}
-use Rattle.window_run.specs.Pieces.{PiecesGo, PiecesKept, line_of, pair, pairs, piece_of}
+use Rattle.histories.specs.Track.{line_of, pair}
+use Rattle.window_run.specs.Pieces.{PiecesGo, PiecesKept, pairs, piece_of}
 use Rattle.window_run.specs.Stage.{AmpsAre, AreLater, CellsBut, RatesAre, Before, BendsBut, DuesBut, IsFrontier, IsSteady, IsTrusted, IsUnderWay, KnowsDue, Waits, cell_of, ground_line, line_at, no_cells}
 use Rattle.window_run.specs.declared.stage.Stage.{Stage}
 use Rattle.window_run.proofs.Flows.{same_flows}

@@ -1,11 +1,13 @@
 -- A circuit as the run of a window sees it.
-use Rattle.std.specs.Prelude.{ℕ, Bool, true, false, ◌-◌, List, [], length}
+use Rattle.std.specs.Prelude.{◌≡◌, ℕ, Bool, true, false, ◌-◌, List, [], length}
 use Rattle.std.specs.Option.{unwrap_or}
 use Rattle.semantics.specs.Device.{current_in}
+use Rattle.semantics.specs.Valid.{is_valid}
 use Rattle.circuit_model.specs.declared.node_kind.NodeKind.{NodeKind}
 use Rattle.circuit_model.specs.declared.node_kind.NodeKind.TheVariants.{Absent, Driven, Free}
 use Rattle.circuit_model.specs.Drive.{drive_of}
 use Rattle.circuit_model.specs.Ends.{ends_in}
+use Rattle.circuit_model.specs.Names.{AreNames, HasNodes}
 use Rattle.circuit_model.specs.Numbers.{CircuitValue, axes, device_of, devices, drain_grid_of, gate_grid_of, kind_at, name_at, near_of}
 use Rattle.window_run.specs.Net.{Net}
 
@@ -18,6 +20,12 @@ abbrev pub is_driven_kind : NodeKind → Bool
 is_driven_kind Driven = true
 is_driven_kind Free = false
 is_driven_kind Absent = false
+
+-- a circuit whose deck is valid, and whose numbers can be relied on
+pub record IsNumbered (c : CircuitValue) : Type 0 where
+  pub valid : is_valid c.deck ≡ true
+  pub names : AreNames c.names
+  pub has : HasNodes c.deck c.names
 
 -- nodes and devices by the circuit's numbers
 unfoldable pub net_of : CircuitValue → Net

@@ -1,4 +1,9 @@
+pub mod Circuit
+pub mod Events
+pub mod Found
+pub mod Intake
 pub mod Net
 pub mod Pieces
 pub mod Stage
-pub mod Circuit
+pub mod Task
+pub mod Window

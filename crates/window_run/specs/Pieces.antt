@@ -1,28 +1,13 @@
 -- The lines of each free node from the beginning of a window on.
-use Rattle.std.specs.Prelude.{◌≡◌, ℕ, Bool, ◌+◌, ◌-◌, ◌<◌, ◌≤◌, true, nat_le, if◌then◌else◌, ℤ, pos, List, [], ◌∷◌, length, slice_index_or, sum_by}
+use Rattle.std.specs.Prelude.{◌≡◌, ℕ, Bool, ◌+◌, ◌-◌, ◌<◌, ◌≤◌, true, false, if◌then◌else◌, ℤ, List, [], ◌∷◌, length, slice_index_or, sum_by}
 use Rattle.semantics.specs.declared.fraction.Fraction.{Fraction}
 use Rattle.semantics.specs.declared.line.Line.{Line}
-use Rattle.node_ramps.specs.Lines.{turned, voltage}
+use Rattle.node_ramps.specs.Lines.{turned}
+use Rattle.histories.specs.Track.{line_of, pair}
 use Rattle.window_run.specs.Net.{Net}
-
-abbrev pub no_line : Line
-no_line = record { start = 0; num = pos 0; rate = pos 0; den = 0 }
-
-abbrev pub line_of : List Line → ℕ → Line
-line_of ls i = slice_index_or ls i no_line
 
 abbrev pub last_of : List Line → Line
 last_of ls = line_of ls (length ls - 1)
-
--- the line in force at a tick: the last of these that begins at the tick or before, and before the second the first
-abbrev pub in_force : Line → List Line → ℕ → Line
-in_force l [] t = l
-in_force l (m ∷ ms) t = if nat_le m.start t then in_force m ms t else l
-
--- the pair that these lines have at a tick
-unfoldable pub pair : List Line → ℕ → Fraction
-pair [] t = voltage no_line t
-pair (l ∷ ls) t = voltage (in_force l ls t) t
 
 abbrev pub piece_of : List (List Line) → ℕ → List Line
 piece_of ps i = slice_index_or ps i []
@@ -44,6 +29,10 @@ pub record IsPiece (from : ℕ) (xs : List Line) (l : Line) : Type 0 where
   pub last : last_of xs ≡ l
   pub turns : (j : ℕ) → j + 1 < length xs → Turns (line_of xs j) (line_of xs (j + 1))
 
+-- each free node has lines that turn from the one tick on, and the last of them begins before the other
+abbrev pub AreTurning : Net → ℕ → ℕ → List (List Line) → Type 0
+AreTurning net from until ps = (i : ℕ) → i < net.nodes → net.free i ≡ true → (l : Line) × IsPiece from (piece_of ps i) l × (l.start < until)
+
 -- each free node has a piece that ends with its line
 abbrev pub PiecesGo : Net → ℕ → List (List Line) → List Line → Type 0
 PiecesGo net from ps ls = (i : ℕ) → i < net.nodes → net.free i ≡ true → IsPiece from (piece_of ps i) (line_of ls i)
@@ -51,6 +40,14 @@ PiecesGo net from ps ls = (i : ℕ) → i < net.nodes → net.free i ≡ true �
 -- up to a tick the pieces have the pairs that they had
 abbrev pub PiecesKept : Net → List (List Line) → List (List Line) → ℕ → Type 0
 PiecesKept net old new now = (i s : ℕ) → i < net.nodes → net.free i ≡ true → s ≤ now → pairs new i s ≡ pairs old i s
+
+-- what is not free has the lines that it had
+abbrev pub OthersKept : Net → List (List Line) → List (List Line) → Type 0
+OthersKept net old new = (i : ℕ) → net.free i ≡ false → piece_of new i ≡ piece_of old i
+
+-- what is not free has no lines
+abbrev pub OnlyFree : Net → List (List Line) → Type 0
+OnlyFree net ps = (i : ℕ) → net.free i ≡ false → piece_of ps i ≡ []
 
 -- how many lines there are in all
 abbrev pub line_count : List (List Line) → ℕ

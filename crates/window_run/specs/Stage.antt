@@ -7,7 +7,8 @@ use Rattle.node_ramps.specs.Lines.{num_at, turned, voltage, InBounds}
 use Rattle.crossing.specs.Crossing.{cell_at}
 use Rattle.event_order.specs.Ticks.{Ticks}
 use Rattle.window_run.specs.Net.{Net, Cells, End, HasEventTicks, IsNet, IsRun, inflows}
-use Rattle.window_run.specs.Pieces.{PiecesGo, line_of, pairs}
+use Rattle.histories.specs.Track.{line_of}
+use Rattle.window_run.specs.Pieces.{PiecesGo, pairs}
 use Rattle.window_run.specs.declared.stage.Stage.{Stage}
 
 -- the cells that an index past the end answers

@@ -4,7 +4,8 @@ ghost use Rattle.std.specs.Prelude.{◌≡◌, ◌≤◌, ◌<◌, ◌+◌, ℕ,
 ghost use Rattle.node_ramps.specs.Lines.{voltage};
 ghost use Rattle.window_run.specs.Circuit.{net_of};
 ghost use Rattle.window_run.specs.Net.{IsNet};
-ghost use Rattle.window_run.specs.Pieces.{line_count, line_of, PiecesGo, SetsOut};
+ghost use Rattle.histories.specs.Track.{line_of};
+ghost use Rattle.window_run.specs.Pieces.{line_count, OnlyFree, PiecesGo, SetsOut};
 ghost use Rattle.window_run.specs.Stage.{AreBounded, AreLines, AreSlow, BeginAt, IsSteady, LinesBut, RatesAreSlow, SameDriven, SameVolts};
 
 use crate::bend::bend;
@@ -94,6 +95,8 @@ fn set_out<L: Ledger>(
     ensures driven { OnOk result (SameDriven (net_of circuit.now) lines.old lines.new) }
     ensures count_pieces { OnOk result (length pieces.new.items ≡ (net_of circuit.now).nodes) }
     ensures pieces { OnOk result (PiecesGo (net_of circuit.now) from (map (λ v. v.items) pieces.new.items) lines.new) }
+    ensures only { OnOk result
+        (OnlyFree (net_of circuit.now) (map (λ v. v.items) pieces.new.items)) }
     ensures steps { OnOk result (steps.new ≡ steps.old + line_count (map (λ v. v.items) pieces.new.items)) }
 {
     for node in 0..node_count(circuit) {
@@ -127,6 +130,8 @@ pub(crate) fn open_stage<L: Ledger>(
     ensures volts { IfOk result (λ stage. (i : ℕ) → (net_of circuit.now).free i ≡ true → i < (net_of circuit.now).nodes → voltage (line_of stage.lines.items i) from ≡ voltage (line_of lines.items i) from) }
     ensures count_pieces { OnOk result (length pieces.new.items ≡ (net_of circuit.now).nodes) }
     ensures pieces { IfOk result (λ stage. PiecesGo (net_of circuit.now) from (map (λ v. v.items) pieces.new.items) stage.lines.items) }
+    ensures only { OnOk result
+        (OnlyFree (net_of circuit.now) (map (λ v. v.items) pieces.new.items)) }
     ensures steps { OnOk result (steps.new ≡ steps.old + line_count (map (λ v. v.items) pieces.new.items)) }
 {
     let driven = driven_nodes(alloc, circuit)?;

@@ -1,6 +1,6 @@
 ghost use Rattle.std.specs.Prelude.{◌≡◌, ◌⊎◌, ◌≤◌, ◌<◌, ◌+◌, ◌^◌, ℕ, true, length, map, All, IfOk, OnOk};
 ghost use Rattle.window_run.specs.Net.{HasEventTicks, IsNet, IsRun};
-ghost use Rattle.window_run.specs.Pieces.{pairs, Counts, PiecesGo, PiecesKept};
+ghost use Rattle.window_run.specs.Pieces.{pairs, AreTurning, Counts, OthersKept, PiecesGo, PiecesKept};
 ghost use Rattle.window_run.specs.Stage.{Arrives, AreLater, IsFrontier, IsSteady, IsUnderWay, Waits};
 ghost use Rattle.window_run.specs.Circuit.{net_of};
 
@@ -63,6 +63,8 @@ impl Stage {
         ensures steady { OnOk result (IsSteady (net_of circuit.now) self.new now end) }
         ensures pieces { OnOk result (PiecesGo (net_of circuit.now) from (map (λ v. v.items) pieces.new) self.new.lines.items) }
         ensures kept { OnOk result (PiecesKept (net_of circuit.now) (map (λ v. v.items) pieces.old) (map (λ v. v.items) pieces.new) now) }
+        ensures others { OnOk result (OthersKept (net_of circuit.now)
+            (map (λ v. v.items) pieces.old) (map (λ v. v.items) pieces.new)) }
         ensures steps { OnOk result (Counts steps.old steps.new (map (λ v. v.items) pieces.old) (map (λ v. v.items) pieces.new)) }
     {
         self.turned.clear();
@@ -109,6 +111,8 @@ impl Stage {
         ensures steady { OnOk result (IsSteady (net_of circuit.now) self.new now end) }
         ensures pieces { OnOk result (PiecesGo (net_of circuit.now) from (map (λ v. v.items) pieces.new) self.new.lines.items) }
         ensures kept { OnOk result (PiecesKept (net_of circuit.now) (map (λ v. v.items) pieces.old) (map (λ v. v.items) pieces.new) now) }
+        ensures others { OnOk result (OthersKept (net_of circuit.now)
+            (map (λ v. v.items) pieces.old) (map (λ v. v.items) pieces.new)) }
         ensures steps { OnOk result (Counts steps.old steps.new (map (λ v. v.items) pieces.old) (map (λ v. v.items) pieces.new)) }
     {
         let devices = device_count(circuit) as usize;
@@ -150,8 +154,12 @@ impl Stage {
         requires pieces { PiecesGo (net_of circuit.now) from (map (λ v. v.items) pieces.old) self.old.lines.items }
         ensures run { IfOk result (λ until. IsRun (net_of circuit.now) (pairs (map (λ v. v.items) pieces.new)) from until) }
         ensures kept { OnOk result (PiecesKept (net_of circuit.now) (map (λ v. v.items) pieces.old) (map (λ v. v.items) pieces.new) from) }
+        ensures others { OnOk result (OthersKept (net_of circuit.now)
+            (map (λ v. v.items) pieces.old) (map (λ v. v.items) pieces.new)) }
         ensures steps { OnOk result (Counts steps.old steps.new (map (λ v. v.items) pieces.old) (map (λ v. v.items) pieces.new)) }
         ensures until { IfOk result (λ until. (from < until) × (until ≤ end)) }
+        ensures turning { IfOk result (λ until.
+            AreTurning (net_of circuit.now) from until (map (λ v. v.items) pieces.new)) }
         ensures budget { IfOk result (λ until. until < end → HasEventTicks (net_of circuit.now) (pairs (map (λ v. v.items) pieces.new)) from budget until) }
     {
         let mut taken = 1;

@@ -1,7 +1,8 @@
 ghost use Rattle.std.specs.Prelude.{◌≡◌, ◌≢◌, IsTrue, IsFalse, ◌++◌, ◌∷◌, IfOk, ◌⊎◌, ◌<◌, ◌≤◌, ◌+◌, ◌*◌, ◌^◌, ℕ, [], pos, true, length, map, slice_index_or, unsigned_abs, OnOk};
 ghost use Rattle.window_run.specs.Net.{IsNet};
 ghost use Rattle.node_ramps.specs.Lines.{turned, InBounds};
-ghost use Rattle.window_run.specs.Pieces.{last_of, line_of, Counts, PiecesGo, PiecesKept};
+ghost use Rattle.histories.specs.Track.{line_of};
+ghost use Rattle.window_run.specs.Pieces.{last_of, Counts, OthersKept, PiecesGo, PiecesKept};
 ghost use Rattle.window_run.specs.Stage.{AreBounded, AreLines, AreSlow, IsFrom, Keeps, LineSameOrNear, LinesBut, SameDriven, SameVolts};
 ghost use Rattle.window_run.specs.Circuit.{net_of};
 
@@ -48,6 +49,8 @@ pub(crate) fn turn<L: Ledger>(
     ensures kept { OnOk result (Keeps looks.old.items looks.new.items) }
     ensures pieces { OnOk result (PiecesGo (net_of circuit.now) from (map (λ v. v.items) pieces.new) lines.new) }
     ensures kept_pieces { OnOk result (PiecesKept (net_of circuit.now) (map (λ v. v.items) pieces.old) (map (λ v. v.items) pieces.new) now) }
+    ensures others { OnOk result (OthersKept (net_of circuit.now)
+        (map (λ v. v.items) pieces.old) (map (λ v. v.items) pieces.new)) }
     ensures steps { OnOk result (Counts steps.old steps.new (map (λ v. v.items) pieces.old) (map (λ v. v.items) pieces.new)) }
 {
     for node in todo {

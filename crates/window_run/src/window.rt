@@ -1,60 +1,65 @@
-ghost use Rattle.std.specs.Prelude.{◌≡◌, ◌≤◌, ◌<◌, ◌+◌, ℕ, true, length, map, IfOk, OnOk};
-ghost use Rattle.node_ramps.specs.Lines.{voltage};
-ghost use Rattle.window_run.specs.Circuit.{net_of};
-ghost use Rattle.window_run.specs.Net.{HasEventTicks, IsRun};
-ghost use Rattle.window_run.specs.Pieces.{line_count, line_of, pairs};
-ghost use Rattle.window_run.specs.Stage.{AreBounded, AreLines, AreSlow, BeginAt};
+ghost use Rattle.std.specs.Prelude.{◌≡◌};
 
-use crate::open::open_stage;
-use crate::wiring::known;
-use circuit_model::Circuit;
-use node_ramps::{Ramp, Steps};
-use semantics::Line;
-use std::alloc::{AllocError, Global};
-use std::sync::ledger::Ledger;
+use crate::stop::Stop;
+use histories::Piece;
+use std::marker::Model;
 
-/// The run of a circuit from one tick to another.
+/// What a run found of some nodes between two ticks: a piece of each. A contract sees the ticks, why it went no further,
+/// and the pieces.
 #[derive(Drop)]
 pub struct Window {
-    /// Where it stopped.
-    pub until: u64,
-    /// The ramps of each free node, by its number; other numbers have none.
-    pub pieces: Vec<Vec<Ramp>>,
+    pub(crate) from: u64,
+    pub(crate) until: u64,
+    pub(crate) stop: Stop,
+    pub(crate) pieces: Vec<Piece>,
 }
 
-/// Runs a circuit from a tick to the end, or to the first event tick past so many, the beginning among them. The lines
-/// tell the voltage that each free node has at the beginning: they begin there, without a slope.
-pub fn run_window<L: Ledger>(
-    alloc: Global,
-    circuit: &Circuit,
-    lines: Vec<Line>,
-    steps: &mut Steps<L>,
-    from: u64,
-    end: u64,
-    budget: u64,
-) -> Result<Window, AllocError>
-    requires order { (from < end) × (end ≤ (net_of circuit.now).stop) }
-    requires budget { 1 ≤ budget }
-    requires count { length lines.items ≡ (net_of circuit.now).nodes }
-    requires lines { AreLines lines.items from end }
-    requires nums { AreBounded (net_of circuit.now) lines.items from }
-    requires slow { AreSlow (net_of circuit.now) lines.items }
-    requires begin { BeginAt (net_of circuit.now) lines.items from }
-    // From there on each free node is charged at each tick with what flows in at the voltages of the tick.
-    ensures run { IfOk result (λ w. IsRun (net_of circuit.now) (pairs (map (λ v. v.items) w.pieces.items)) from w.until) }
-    ensures first { IfOk result (λ w. (i : ℕ) → i < (net_of circuit.now).nodes → (net_of circuit.now).free i ≡ true
-        → pairs (map (λ v. v.items) w.pieces.items) i from ≡ voltage (line_of lines.items i) from) }
-    ensures count { IfOk result (λ w. length w.pieces.items ≡ (net_of circuit.now).nodes) }
-    ensures until { IfOk result (λ w. (from < w.until) × (w.until ≤ end)) }
-    // It stops before the end only where so many event ticks were taken.
-    ensures budget { IfOk result (λ w. w.until < end
-        → HasEventTicks (net_of circuit.now) (pairs (map (λ v. v.items) w.pieces.items)) from budget w.until) }
-    // As many ramps were counted as it has.
-    ensures steps { IfOk result (λ w. steps.new ≡ steps.old + line_count (map (λ v. v.items) w.pieces.items)) }
-{
-    known(circuit);
-    let mut pieces = Vec::new(alloc);
-    let mut stage = open_stage(alloc, circuit, lines, &mut pieces, steps, from, end)?;
-    let until = stage.run(circuit, &mut pieces, steps, from, end, budget)?;
-    Ok(Window { until, pieces })
+impl Model for Window {
+    ghost use Rattle.window_run.specs.Window.{WindowValue};
+
+    ghost Value = { WindowValue };
+
+    ghost view = { λ w. record {
+      from = w.from;
+      until = w.until;
+      stop = w.stop;
+      pieces = w.pieces.items;
+    } };
+}
+
+impl Window {
+    /// Its first tick.
+    pub fn from(&self) -> u64
+        ensures { result ≡ self.now.from }
+    {
+        self.from
+    }
+
+    /// Its last tick.
+    pub fn until(&self) -> u64
+        ensures { result ≡ self.now.until }
+    {
+        self.until
+    }
+
+    /// Why it went no further.
+    pub fn stop(&self) -> Stop
+        ensures { result ≡ self.now.stop }
+    {
+        self.stop
+    }
+
+    /// Its pieces.
+    pub fn pieces(&self) -> &[Piece]
+        ensures { result.now ≡ self.now.pieces }
+    {
+        self.pieces.as_slice()
+    }
+
+    /// Its pieces, and the window no more.
+    pub fn into_pieces(self) -> Vec<Piece>
+        ensures { result.items ≡ self.pieces }
+    {
+        self.pieces
+    }
 }

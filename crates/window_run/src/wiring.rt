@@ -1,7 +1,7 @@
 //! A circuit's nodes and devices by their numbers.
 
 ghost use Rattle.std.specs.Prelude.{◌≡◌, ◌≤◌, ◌<◌, ◌^◌, [], length, option_map, unwrap_or, unsigned_abs};
-ghost use Rattle.window_run.specs.Circuit.{net_of};
+ghost use Rattle.window_run.specs.Circuit.{IsNumbered, net_of};
 ghost use Rattle.window_run.specs.Net.{IsNet};
 
 use circuit_model::{Circuit, Ends, NodeKind};
@@ -96,7 +96,8 @@ pub(crate) fn current(circuit: &Circuit, device: u32, gate_cell: u32, drain_cell
 
 /// A circuit holds what is asked of it.
 pub(crate) fn known(circuit: &Circuit)
-    ensures { IsNet (net_of circuit.now) }
+    ensures net { IsNet (net_of circuit.now) }
+    ensures numbered { IsNumbered circuit.now }
 {
     circuit.stop();
     circuit.node_count();

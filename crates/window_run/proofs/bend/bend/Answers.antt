@@ -5,7 +5,7 @@ use Rattle.std.specs.FinMap as map
 use Rattle.std.proofs.lemmas.List.Elements.{Contains-append_left}
 use Rattle.semantics.specs.declared.line.Line.{Line}
 use Rattle.window_run.specs.Net.{Net}
-use Rattle.window_run.specs.Pieces.{line_of}
+use Rattle.histories.specs.Track.{line_of}
 use Rattle.window_run.specs.Stage.{IsTrusted}
 use Rattle.window_run.specs.Circuit.{net_of}
 use Rattle.window_run.proofs.Lines.{bends_more, le_of, free_same, from_more, lines_more, looks_more, nothing_left}

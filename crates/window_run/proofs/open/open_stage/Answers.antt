@@ -8,7 +8,7 @@ use Rattle.node_ramps.specs.declared.ramp.Ramp.{Ramp}
 use Rattle.node_ramps.specs.Lines.{voltage}
 use Rattle.window_run.specs.Circuit.{net_of}
 use Rattle.window_run.specs.Net.{Net}
-use Rattle.window_run.specs.Pieces.{line_of}
+use Rattle.histories.specs.Track.{line_of}
 use Rattle.window_run.specs.Stage.{SameFree}
 use Rattle.window_run.proofs.Due.{cells_kept}
 use Rattle.window_run.proofs.Lines.{free_nums, free_slow, trust_kept}

@@ -6,7 +6,8 @@ use Rattle.semantics.specs.declared.line.Line.{Line}
 use Rattle.node_ramps.specs.declared.ramp.Ramp.{Ramp}
 use Rattle.window_run.specs.Circuit.{net_of}
 use Rattle.window_run.specs.Net.{Net}
-use Rattle.window_run.specs.Pieces.{SetsOut, line_of}
+use Rattle.histories.specs.Track.{line_of}
+use Rattle.window_run.specs.Pieces.{SetsOut}
 use Rattle.window_run.proofs.Begin.{Out, map_push, out_more}
 use Rattle.window_run.proofs.open.set_out.Goals as goal
 
@@ -23,6 +24,7 @@ loop-node-init g c =
       driven = λ i d. refl;
       count = refl;
       pieces = λ i h f. absurd (omega (arith, h));
+      only = λ i f. refl;
       steps_are = omega arith;
     })
 

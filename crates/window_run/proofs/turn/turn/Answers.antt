@@ -10,10 +10,11 @@ use Rattle.node_ramps.specs.declared.ramp.Ramp.{Ramp}
 use Rattle.node_ramps.specs.Lines.{num_at, turned, InBounds}
 use Rattle.crossing.proofs.Straight.{in_bounds_before}
 use Rattle.window_run.specs.Net.{Net}
-use Rattle.window_run.specs.Pieces.{IsPiece, last_of, line_of, piece_of}
+use Rattle.histories.specs.Track.{line_of}
+use Rattle.window_run.specs.Pieces.{IsPiece, last_of, piece_of}
 use Rattle.window_run.specs.Circuit.{net_of}
 use Rattle.window_run.proofs.Lines.{driven_same, each, from_more, le_of, lines_more, looks_more, meets, not_driven, nothing_left, nums_more, slow_more, todo_more, todo_same, turned_in_bounds, turned_there, volts_more}
-use Rattle.window_run.proofs.Pieces.{count_more, go_more, kept_more, put_kept, put_piece, set_map}
+use Rattle.window_run.proofs.Pieces.{count_more, go_more, kept_more, others_more, put_kept, put_piece, set_map}
 use Rattle.window_run.proofs.turn.turn.Goals as goal
 use Rattle.window_run.proofs.turn.turn.Goals.{then-turns+in_ok-extend_from_slice+in_ok-lines, else-turns}
 
@@ -31,6 +32,7 @@ loop-node-init g c = record {
   kept = λ k has. has;
   pieces = c.requires.pieces;
   kept_pieces = λ i s below free h. refl;
+  others = λ i not_free. refl;
   steps = refl;
 }
 
@@ -77,6 +79,7 @@ loop-node-preserved g c =
             from = from_more net c.args.looks.now.items c.loop-node.looks.items k c.loop-node.invariant.from;
             kept = λ x h. Contains-append_left c.loop-node.looks.items (net.near k) x (c.loop-node.invariant.kept x h);
             pieces = go_more net c.args.from ps ls k xs line beside within (put_piece c.args.from (piece_of ps k) (line_of ls k) c.args.now rate piece early other) c.loop-node.invariant.pieces;
+            others = others_more net (map (λ (v : Vec Ramp Global). v.items) c.args.pieces.now) ps k xs free c.loop-node.invariant.others;
             kept_pieces = kept_more net (map (λ (v : Vec Ramp Global). v.items) c.args.pieces.now) ps c.args.now k xs beside (λ s h. put_kept c.args.from (piece_of ps k) (line_of ls k) c.args.now rate s piece early other h) c.loop-node.invariant.kept_pieces;
             steps = count_more _ _ _ (map (λ (v : Vec Ramp Global). v.items) c.args.pieces.now) ps k xs line beside refl w.in_ok-lines.ensures.counted c.loop-node.invariant.steps;
           })
@@ -94,6 +97,7 @@ loop-node-preserved g c =
             kept = c.loop-node.invariant.kept;
             pieces = c.loop-node.invariant.pieces;
             kept_pieces = c.loop-node.invariant.kept_pieces;
+            others = c.loop-node.invariant.others;
             steps = c.loop-node.invariant.steps;
           })
     ]
@@ -132,3 +136,8 @@ returns-clause-todo g c = λ i below free. ⊎_elim
 
 pub near-requires : goal.near-requires
 near-requires g c = c.requires.net.free_inside (get_or c.args.todo.now c.loop-node.node-index 0) (c.turns.ensures.yes c.if-turns.true).0
+
+pub bounds-lines-i : goal.bounds-lines-i
+bounds-lines-i g c =
+    let inside = c.requires.net.free_inside (get_or c.args.todo.now c.loop-node.node-index 0) (c.turns.ensures.yes c.if-turns.true).0 in
+    omega (arith, inside, c.loop-node.auto.lines, c.requires.count_lines)

@@ -1,6 +1,7 @@
 -- Each node that is not still to do has its rate, and what has changed is noted.
 use Rattle.std.proofs.Common.{◌≡◌, ◌<◌, ◌⊎◌, ℕ, true, drop, get_or, map, pos}
-use Rattle.window_run.specs.Pieces.{Counts, PiecesGo, PiecesKept, line_of}
+use Rattle.histories.specs.Track.{line_of}
+use Rattle.window_run.specs.Pieces.{Counts, OthersKept, PiecesGo, PiecesKept}
 use Rattle.window_run.specs.Stage.{AreBounded, AreLines, AreSlow, IsFrom, Keeps, LineSameOrNear, LinesBut, SameDriven, SameVolts}
 use Rattle.window_run.specs.Circuit.{net_of}
 use Rattle.window_run.proofs.turn.turn.Given as goal
@@ -19,5 +20,6 @@ invariant-loop-node g l = record {
   kept : Keeps l.initial.looks.items l.looks.items;
   pieces : PiecesGo (net_of l.circuit) l.from (map (λ v. v.items) l.pieces) l.lines;
   kept_pieces : PiecesKept (net_of l.circuit) (map (λ v. v.items) l.initial.pieces) (map (λ v. v.items) l.pieces) l.now;
+  others : OthersKept (net_of l.circuit) (map (λ v. v.items) l.initial.pieces) (map (λ v. v.items) l.pieces);
   steps : Counts l.initial.steps l.steps (map (λ v. v.items) l.initial.pieces) (map (λ v. v.items) l.pieces);
 }

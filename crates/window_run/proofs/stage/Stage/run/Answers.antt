@@ -3,8 +3,10 @@ use Rattle.std.proofs.Common.{◌≡◌, ◌<◌, ◌≤◌, ◌+◌, ℕ, List,
 use Rattle.semantics.specs.declared.line.Line.{Line}
 use Rattle.node_ramps.specs.declared.ramp.Ramp.{Ramp}
 use Rattle.window_run.specs.Net.{HasEventTicks, IsEventTick, IsRun, Net}
-use Rattle.window_run.specs.Pieces.{PiecesKept, pairs}
+use Rattle.histories.specs.Track.{line_of}
+use Rattle.window_run.specs.Pieces.{AreTurning, PiecesKept, pairs}
 use Rattle.window_run.specs.Stage.{IsSteady, IsUnderWay}
+use Rattle.window_run.specs.declared.stage.Stage.{Stage}
 use Rattle.window_run.specs.Circuit.{net_of}
 use Rattle.window_run.proofs.Pieces.{counts_on, kept_on}
 use Rattle.window_run.proofs.Runs.{event_there, later_next, run_kept, run_more, ticks_below, ticks_kept, ticks_more}
@@ -30,6 +32,7 @@ loop-next-init g c =
       };
       most = c.requires.budget;
       kept = λ i s below free upto. refl;
+      others = λ i not_free. refl;
       steps = refl;
     }
 
@@ -61,6 +64,7 @@ loop-next-preserved g c =
       };
       most = (let h = c.if-taken-budget.true in omega (arith, h));
       kept = kept_on net (map (λ (v : Vec Ramp Global). v.items) c.args.pieces.now) ps new c.args.from next (omega (arith, way.from_first, way.order)) kept c.loop-next.invariant.kept;
+      others = λ i not_free. c.in_ok-step.ensures.others i not_free ∙ c.loop-next.invariant.others i not_free;
       steps = counts_on _ _ _ (map (λ (v : Vec Ramp Global). v.items) c.args.pieces.now) ps new c.loop-next.invariant.steps c.in_ok-step.ensures.steps;
     }
 
@@ -87,3 +91,18 @@ returns-else-taken-budget-clause-budget g c = λ h.
     let way : IsUnderWay net c.loop-next.self ps c.args.from c.loop-next.next c.args.end c.loop-next.taken = c.loop-next.invariant.way in
     let same : c.args.budget ≡ c.loop-next.taken = omega (arith, c.if-taken-budget.false, c.loop-next.invariant.most) in
     rw same (ticks_below net (pairs ps) c.args.from c.loop-next.taken (way.now + 1) c.loop-next.next (omega (arith, way.order)) way.ticks)
+
+turning : (net : Net) (s : Stage) (ps : List (List Line)) (from next end taken : ℕ) → IsUnderWay net s ps from next end taken → AreTurning net from next ps
+turning net s ps from next end taken way = λ i inside free. (
+  line_of s.lines.items i,
+  way.pieces i inside free,
+  (let h = way.steady.lines.started i (omega (arith, inside, way.steady.count_lines)) in omega (arith, h, way.order)),
+)
+
+pub returns-else-taken-budget-clause-turning : goal.returns-else-taken-budget-clause-turning
+returns-else-taken-budget-clause-turning g c =
+    turning (net_of c.args.circuit.now) c.loop-next.self (map (λ (v : Vec Ramp Global). v.items) c.loop-next.pieces) c.args.from c.loop-next.next c.args.end c.loop-next.taken c.loop-next.invariant.way
+
+pub returns-after-loop-next-clause-turning : goal.returns-after-loop-next-clause-turning
+returns-after-loop-next-clause-turning g c =
+    turning (net_of c.args.circuit.now) c.loop-next.self (map (λ (v : Vec Ramp Global). v.items) c.loop-next.pieces) c.args.from c.loop-next.next c.args.end c.loop-next.taken c.loop-next.invariant.way
