@@ -31,16 +31,16 @@ unfolding course
 pair_driven d n t s is = rw (drive_is d n t s is) refl
 
 -- up to before the next turn the line is in force
-in_force : (line : ℕ → Line) (stop now : ℕ) (next : Option ℕ) → now < stop → IsNextTurn line stop now next → (t : ℕ) → now ≤ t → t < unwrap_or next stop → StaysTo line now t
-in_force line stop now None early never t after before = never t after (omega arith)
-in_force line stop now (Some next) early turn t after before = turn.stays t after before
+in_force : (line : ℕ → Line) (stop now : ℕ) (next : Option ℕ) → IsNextTurn line stop now next → (t : ℕ) → now ≤ t → t < unwrap_or next (stop + 1) → StaysTo line now t
+in_force line stop now None never t after before = never t after (omega arith)
+in_force line stop now (Some next) turn t after before = turn.stays t after before
 
-turn_later : (line : ℕ → Line) (stop now : ℕ) (next : Option ℕ) → now < stop → IsNextTurn line stop now next → (now < unwrap_or next stop) × (unwrap_or next stop ≤ stop)
-turn_later line stop now None early never = (early, omega arith)
-turn_later line stop now (Some next) early turn = (turn.later, turn.up_to)
+turn_later : (line : ℕ → Line) (stop now : ℕ) (next : Option ℕ) → now ≤ stop → IsNextTurn line stop now next → (now < unwrap_or next (stop + 1)) × (unwrap_or next (stop + 1) ≤ stop + 1)
+turn_later line stop now None early never = (omega arith, omega arith)
+turn_later line stop now (Some next) early turn = (turn.later, omega (arith, turn.up_to))
 
-pub driven_course : (c : CircuitValue) (h : RecordValue) (node now : ℕ) (next : Option ℕ) (way : Course) → IsBasis c h → kind_at c node ≡ Driven → now < c.deck.stop
-    → way.line ≡ drive_of c.deck (name_at c node) now → IsNextTurn (drive_of c.deck (name_at c node)) c.deck.stop now next → way.until ≡ unwrap_or next c.deck.stop
+pub driven_course : (c : CircuitValue) (h : RecordValue) (node now : ℕ) (next : Option ℕ) (way : Course) → IsBasis c h → kind_at c node ≡ Driven → now ≤ c.deck.stop
+    → way.line ≡ drive_of c.deck (name_at c node) now → IsNextTurn (drive_of c.deck (name_at c node)) c.deck.stop now next → way.until ≡ unwrap_or next (c.deck.stop + 1)
     → ((t : ℕ) → now ≤ t → t ≤ 10 ^ 10 → InBounds way.line t) → IsCourse c h (Some node) now way
 driven_course c h node now next way basis driven early line turn until bounds = at (driven_by c node driven)
   where
@@ -58,8 +58,9 @@ driven_course c h node now next way basis driven early line turn until bounds = 
             starts = ap (λ (l : Line). l.start) line ∙ starts_now c.deck n now s by.1;
             bounds = λ t after before. bounds t after (omega (arith, before, until, ahead.1, stop));
           };
+          by_stop = rw until ahead.1;
           has = λ t after before.
-              let stays : StaysTo (drive_of c.deck n) now t = in_force (drive_of c.deck n) c.deck.stop now next early turn t after (rw until at before) in
+              let stays : StaysTo (drive_of c.deck n) now t = in_force (drive_of c.deck n) c.deck.stop now next turn t after (rw until at before) in
               volts_driven c h basis node t s driven by.1 ∙ pair_driven c.deck n t s by.1 ∙ (λ i. record { num = (stays i).num; den = (stays i).den }) ∙ ap (λ (l : Line). voltage l t) (sym line);
         }
 
@@ -81,5 +82,6 @@ free_course c h node now end way basis free line bounded is until =
         starts = first;
         bounds = λ t after before. in_bounds way.line t bounded (omega (arith, first, after)) (omega (arith, before, until, is.by_stop, basis.recorded.stop, limit));
       };
+      by_stop = omega (arith, until, is.by_stop, basis.recorded.stop);
       has = λ t after before. volts_free c h basis node t free ∙ is.has t (omega (arith, start, after)) (omega (arith, before, until)) ∙ ap (λ (l : Line). voltage l t) (sym line);
     }

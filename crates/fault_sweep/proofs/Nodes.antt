@@ -19,7 +19,8 @@ use Rattle.circuit_model.proofs.ByNumber.{AreVolts, end_kind}
 use Rattle.circuit_model.proofs.NodeKinds.{driven_some, kind_free, kind_here, kind_inside, real_kind}
 use Rattle.histories.specs.Record.{RecordValue, pair_at}
 use Rattle.record_laws.proofs.Numbers.{named_at}
-use Rattle.fault_sweep.specs.Records.{IsBasis, record_of, volts, volts_of_ends}
+use Rattle.circuit_model.specs.Records.{record_of}
+use Rattle.fault_sweep.specs.Records.{IsBasis, volts, volts_of_ends}
 use Rattle.fault_sweep.specs.Stretches.{IsReal}
 
 -- ---- kinds
@@ -53,22 +54,22 @@ driven_volts d t a n s real is = rw (real, is) refl
 
 module _ (c : CircuitValue) (h : RecordValue) (basis : IsBasis c h) where
   -- the pair of a number is that of its name
-  pub record_at : (node t : ℕ) → node < length c.names → record_of c h (name_at c node) t ≡ pair_at h node t
+  pub record_at : (node t : ℕ) → node < length c.names → record_of c (pair_at h) (name_at c node) t ≡ pair_at h node t
   record_at node t below = named_at c.names (pair_at h) node t (λ j before. basis.named.apart j node before below) below
 
   pub volts_free : (node t : ℕ) → kind_at c node ≡ Free → volts c h t (name_at c node) ≡ pair_at h node t
   volts_free node t free =
       let is = name_free c node free in
-      undriven_volts c.deck t (λ m. record_of c h m t) (name_at c node) (free_real c.deck (name_at c node) is) (free_undriven c.deck (name_at c node) is) ∙ record_at node t (free_inside c node free)
+      undriven_volts c.deck t (λ m. record_of c (pair_at h) m t) (name_at c node) (free_real c.deck (name_at c node) is) (free_undriven c.deck (name_at c node) is) ∙ record_at node t (free_inside c node free)
 
   pub volts_driven : (node t : ℕ) (s : List (ℕ × ℤ) × Bool) → kind_at c node ≡ Driven → driver c.deck (name_at c node) ≡ Some s → volts c h t (name_at c node) ≡ driven_pair s t
   volts_driven node t s driven is =
       let inside = kind_inside c node (λ absent. let clash : Driven ≡ Absent = sym driven ∙ absent in absurd (cc)) in
-      driven_volts c.deck t (λ m. record_of c h m t) (name_at c node) s (basis.named.real node inside) is
+      driven_volts c.deck t (λ m. record_of c (pair_at h) m t) (name_at c node) s (basis.named.real node inside) is
 
   pub are_volts : (t : ℕ) → AreVolts c.names (volts c h t) (volts_of_ends c h t)
   are_volts t = record {
-    grounded = λ n is. ground_volts c.deck t (λ m. record_of c h m t) n is;
+    grounded = λ n is. ground_volts c.deck t (λ m. record_of c (pair_at h) m t) n is;
     none = refl;
     each = λ i below. refl;
   }

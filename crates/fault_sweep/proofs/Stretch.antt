@@ -20,7 +20,8 @@ use Rattle.histories.specs.Record.{RecordValue, pair_at}
 use Rattle.record_laws.specs.Laws.{IsStraight}
 use Rattle.record_laws.proofs.Lines.{fault_straight}
 use Rattle.fault_sweep.specs.declared.hold.Hold.{Hold}
-use Rattle.fault_sweep.specs.Records.{IsBasis, current_at, has_fault, record_of, volts, volts_of_ends}
+use Rattle.circuit_model.specs.Records.{record_of}
+use Rattle.fault_sweep.specs.Records.{IsBasis, current_at, has_fault, volts, volts_of_ends}
 use Rattle.fault_sweep.specs.Stretches.{AreHolds, AreOnTo, IsStraightTo, total}
 use Rattle.fault_sweep.proofs.Courses.{line_starts}
 use Rattle.fault_sweep.proofs.Holds.{total_flow}
@@ -48,10 +49,10 @@ module _ (c : CircuitValue) (h : RecordValue) (node : ℕ) (basis : IsBasis c h)
   n = name_at c node
 
   abbrev w : Record
-  w = record_of c h
+  w = record_of c (pair_at h)
 
   -- below the stop it has a fault where the record does not go on
-  pub fault_at : (t : ℕ) → t < c.deck.stop → has_fault c h node t ≡ not (follows c.deck (record_of c h) (name_at c node) t)
+  pub fault_at : (t : ℕ) → t < c.deck.stop → has_fault c h node t ≡ not (follows c.deck (record_of c (pair_at h)) (name_at c node) t)
   unfolding is_fault
   fault_at t below = rw (name_free c node free, lt-ltb t c.deck.stop below) refl
 
@@ -92,7 +93,7 @@ module _ (c : CircuitValue) (h : RecordValue) (node : ℕ) (basis : IsBasis c h)
       abbrev l : Line
       l = line_at (pair_at h node) h.stop now
 
-      on_line : now + 1 < straight → IsStraight (record_of c h) (name_at c node) now straight l.num l.rate l.den
+      on_line : now + 1 < straight → IsStraight (record_of c (pair_at h)) (name_at c node) now straight l.num l.rate l.den
       on_line more s after before =
           record_at c h basis node s (free_inside c node free)
           ∙ line.line more s after before

@@ -1,2 +1,3 @@
+pub mod CellStays
 pub mod Records
 pub mod Stretches

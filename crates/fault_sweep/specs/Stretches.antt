@@ -30,9 +30,10 @@ pub record IsRunning (now : ℕ) (course : Course) : Type 0 where
   pub starts : course.line.start ≡ now
   pub bounds : (t : ℕ) → now ≤ t → t < course.until → InBounds course.line t
 
--- and it has the voltages of an end
+-- and it has the voltages of an end, up to the stop at most
 pub record IsCourse (c : CircuitValue) (h : RecordValue) (end : End) (now : ℕ) (course : Course) : Type 0 where
   pub running : IsRunning now course
+  pub by_stop : course.until ≤ c.deck.stop + 1
   pub has : (t : ℕ) → now ≤ t → t < course.until → volts_of_ends c h t end ≡ voltage course.line t
 
 -- of the second end of a device

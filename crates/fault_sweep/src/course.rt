@@ -1,4 +1,4 @@
-ghost use Rattle.std.specs.Prelude.{◌≡◌, ◌≤◌, ◌<◌, Some};
+ghost use Rattle.std.specs.Prelude.{◌≡◌, ◌≤◌, ◌<◌, ◌+◌, Some};
 ghost use Rattle.circuit_model.specs.declared.node_kind.NodeKind.{NodeKind};
 ghost use Rattle.circuit_model.specs.Numbers.{kind_at};
 ghost use Rattle.fault_sweep.specs.Records.{IsBasis};
@@ -20,7 +20,7 @@ impl Course {
     pub(crate) fn of(circuit: &Circuit, past: &Histories, lead: Option<u32>, now: u64) -> Course
         requires basis { IsBasis circuit.now past.now }
         requires real { IsReal circuit.now lead }
-        requires tick { now < circuit.now.deck.stop }
+        requires tick { now ≤ circuit.now.deck.stop }
         ensures { IsCourse circuit.now past.now lead now result }
     {
         let Some(node) = lead else {
@@ -33,10 +33,10 @@ impl Course {
         }
     }
 
-    /// That of ground, to the stop.
+    /// That of ground, up to the stop.
     fn ground(circuit: &Circuit, now: u64) -> Course
         ensures line { result.line ≡ ground now }
-        ensures until { result.until ≡ circuit.now.deck.stop }
+        ensures until { result.until ≡ circuit.now.deck.stop + 1 }
     {
         Course {
             line: Line {
@@ -45,7 +45,7 @@ impl Course {
                 rate: 0,
                 den: 1,
             },
-            until: circuit.stop(),
+            until: past_stop(circuit),
         }
     }
 
@@ -53,12 +53,12 @@ impl Course {
     fn driven(circuit: &Circuit, past: &Histories, node: u32, now: u64) -> Course
         requires basis { IsBasis circuit.now past.now }
         requires driven { kind_at circuit.now node ≡ NodeKind.Driven }
-        requires tick { now < circuit.now.deck.stop }
+        requires tick { now ≤ circuit.now.deck.stop }
         ensures { IsCourse circuit.now past.now (Some node) now result }
     {
         Course {
             line: circuit.drive(node, now),
-            until: circuit.next_point(node, now).unwrap_or(circuit.stop()),
+            until: circuit.next_point(node, now).unwrap_or(past_stop(circuit)),
         }
     }
 
@@ -66,7 +66,7 @@ impl Course {
     fn free(circuit: &Circuit, past: &Histories, node: u32, now: u64) -> Course
         requires basis { IsBasis circuit.now past.now }
         requires free { kind_at circuit.now node ≡ NodeKind.Free }
-        requires tick { now < circuit.now.deck.stop }
+        requires tick { now ≤ circuit.now.deck.stop }
         ensures { IsCourse circuit.now past.now (Some node) now result }
     {
         Course {
@@ -74,4 +74,11 @@ impl Course {
             until: past.line_end(node, now) + 1,
         }
     }
+}
+
+/// The tick after the stop.
+pub(crate) fn past_stop(circuit: &Circuit) -> u64
+    ensures { result ≡ circuit.now.deck.stop + 1 }
+{
+    circuit.stop() + 1
 }

@@ -1,4 +1,4 @@
-ghost use Rattle.std.specs.Prelude.{◌≡◌, ◌≤◌, ◌<◌, ◌^◌, length, pos, unsigned_abs};
+ghost use Rattle.std.specs.Prelude.{◌≡◌, ◌≤◌, ◌<◌, ◌+◌, ◌^◌, length, pos, unsigned_abs};
 ghost use Rattle.circuit_model.specs.declared.node_kind.NodeKind.{NodeKind};
 ghost use Rattle.circuit_model.specs.Numbers.{devices, kind_at};
 ghost use Rattle.circuit_model.specs.Wiring.{inflow};
@@ -6,7 +6,7 @@ ghost use Rattle.fault_sweep.specs.Records.{IsBasis};
 ghost use Rattle.fault_sweep.specs.Stretches.{drain_cells, gate_cells, AreHolds, AreOn};
 ghost use Rattle.fault_sweep.specs.Stretches.{IsHold, IsSecond, IsStay};
 
-use crate::course::Course;
+use crate::course::{Course, past_stop};
 use crate::stay::Stay;
 use circuit_model::{Circuit, Ends};
 use histories::Histories;
@@ -67,18 +67,24 @@ pub(crate) fn renew(circuit: &Circuit, past: &Histories, node: u32, holds: &mut 
     }
 }
 
-/// The stay of the gate of a device less its second end. A resistor has none, and is in cell 0 to the stop.
-fn gate_stay(circuit: &Circuit, past: &Histories, device: u32, second: &Course, now: u64) -> Stay
+/// The stay of the gate of a device less its second end. A resistor has none, and is in cell 0 up to the stop.
+pub(crate) fn gate_stay(
+    circuit: &Circuit,
+    past: &Histories,
+    device: u32,
+    second: &Course,
+    now: u64,
+) -> Stay
     requires basis { IsBasis circuit.now past.now }
     requires device { device < length (devices circuit.now.deck) }
     requires second { IsSecond circuit.now past.now device now second.now }
-    requires tick { now < circuit.now.deck.stop }
+    requires tick { now ≤ circuit.now.deck.stop }
     ensures { IsStay (gate_cells circuit.now past.now device) now result }
 {
     let Some(grid) = circuit.gate_grid(device) else {
         return Stay {
             cell: 0,
-            until: circuit.stop(),
+            until: past_stop(circuit),
         };
     };
     let gate = Course::of(circuit, past, circuit.ends(device).gate, now);
@@ -86,12 +92,19 @@ fn gate_stay(circuit: &Circuit, past: &Histories, device: u32, second: &Course, 
 }
 
 /// The stay of the first end of a device less its second.
-fn drain_stay(circuit: &Circuit, past: &Histories, device: u32, second: &Course, now: u64) -> Stay
+pub(crate) fn drain_stay(
+    circuit: &Circuit,
+    past: &Histories,
+    device: u32,
+    second: &Course,
+    now: u64,
+) -> Stay
     requires basis { IsBasis circuit.now past.now }
     requires device { device < length (devices circuit.now.deck) }
     requires second { IsSecond circuit.now past.now device now second.now }
-    requires tick { now < circuit.now.deck.stop }
-    ensures { IsStay (drain_cells circuit.now past.now device) now result }
+    requires tick { now ≤ circuit.now.deck.stop }
+    ensures stay { IsStay (drain_cells circuit.now past.now device) now result }
+    ensures by_stop { result.until ≤ circuit.now.deck.stop + 1 }
 {
     let first = Course::of(circuit, past, circuit.ends(device).first, now);
     Stay::between(&first, second, circuit.drain_grid(device), now)

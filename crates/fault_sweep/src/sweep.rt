@@ -3,7 +3,8 @@ ghost use Rattle.circuit_model.specs.declared.node_kind.NodeKind.{NodeKind};
 ghost use Rattle.circuit_model.specs.Numbers.{kind_at};
 ghost use Rattle.histories.specs.Record.{keeps, pair_at};
 ghost use Rattle.fault_sweep.specs.Records.{current_at, has_fault};
-ghost use Rattle.fault_sweep.specs.Records.{AreFaults, IsBasis, IsRecordOf};
+ghost use Rattle.circuit_model.specs.Records.{IsRecordOf};
+ghost use Rattle.fault_sweep.specs.Records.{AreFaults, IsBasis};
 ghost use Rattle.fault_sweep.specs.Stretches.{AreHolds, IsStraightTo, IsStretch};
 
 use crate::hold::{Hold, renew};
@@ -28,7 +29,7 @@ pub fn faults(
     b: u64,
 ) -> Result<Spans, AllocError>
     requires node { kind_at circuit.now node ≡ NodeKind.Free }
-    requires record { IsRecordOf circuit.now past.now }
+    requires record { IsRecordOf circuit.now past.now.stop (keeps past.now) }
     requires order { a ≤ b }
     requires stop { b ≤ circuit.now.deck.stop }
     ensures { IfOk result (AreFaults circuit.now past.now node a b) }

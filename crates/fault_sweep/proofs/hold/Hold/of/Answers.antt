@@ -13,7 +13,7 @@ pub of-second-requires-clause-real : goal.of-second-requires-clause-real
 of-second-requires-clause-real c = rw c.ends-ends.ensures (ends_real c.args.circuit.now c.args.past.now c.args.device c.requires.basis c.requires.device).second
 
 pub device_current-amps-requires-clause-cells : goal.device_current-amps-requires-clause-cells
-device_current-amps-requires-clause-cells c = stays_have c.args.circuit.now c.args.past.now c.args.device c.args.now c.gate_stay-gate.result c.drain_stay-drain.result c.gate_stay-gate.ensures c.drain_stay-drain.ensures
+device_current-amps-requires-clause-cells c = stays_have c.args.circuit.now c.args.past.now c.args.device c.args.now c.gate_stay-gate.result c.drain_stay-drain.result c.gate_stay-gate.ensures c.drain_stay-drain.ensures.stay
 
 pub returns-clause-hold : goal.returns-clause-hold
 returns-clause-hold c =
@@ -22,4 +22,4 @@ returns-clause-hold c =
     let fits : FitsSigned w64 c.gain.result = record { sfits = c.gain.type_inv } in
     let flow : c.gain.result ≡ inflow c.args.node (ends_in c.args.circuit.now.names (device_of c.args.circuit.now.deck c.args.device)) amps = rw (to_z-of_z w64 amps amps_fit, c.ends-ends.ensures) at c.gain.ensures.value in
     rw (to_z-of_z w64 c.gain.result fits) (device_hold c.args.circuit.now c.args.past.now c.args.node c.args.device c.args.now c.gate_stay-gate.result c.drain_stay-drain.result amps _
-    c.gate_stay-gate.ensures c.drain_stay-drain.ensures c.device_current-amps.ensures.value flow c.gain.ensures.small (omega (arith, c.min.ensures)) (omega (arith, c.min.ensures)))
+    c.gate_stay-gate.ensures c.drain_stay-drain.ensures.stay c.device_current-amps.ensures.value flow c.gain.ensures.small (omega (arith, c.min.ensures)) (omega (arith, c.min.ensures)))

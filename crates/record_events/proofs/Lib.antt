@@ -1,0 +1,4 @@
+pub mod Rising
+pub mod Pairs
+pub mod Walk
+pub mod Told
