@@ -1,0 +1,2 @@
+pub mod CardSays
+pub mod LineSays
