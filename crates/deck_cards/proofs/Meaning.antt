@@ -1,5 +1,5 @@
 -- What is known of a node is what the definitions say of it.
-use Rattle.std.proofs.Common.{◌≡◌, ℕ, suc, ◌+◌, ◌*◌, ◌^◌, ◌<◌, ◌≤◌, Bool, true, false, ◌||◌, if◌then◌else◌, List, [], ◌∷◌, length, fold, get_or, Option, Some, None, is_some, is_none, IfSome, ℤ, pos, negsuc, ◌+ℤ◌, unsigned_abs, slice_get, refl, sym, ◌∙◌, ap, subst, rules, arith}
+use Rattle.std.proofs.Common.{◌≡◌, ℕ, suc, ◌+◌, ◌*◌, ◌^◌, ◌<◌, ◌≤◌, Bool, true, false, ◌||◌, if◌then◌else◌, List, [], ◌∷◌, length, fold, map, get_or, Option, Some, None, is_some, is_none, IfSome, ℤ, pos, negsuc, ◌+ℤ◌, unsigned_abs, slice_get, refl, sym, ◌∙◌, ap, subst, rules, arith}
 use Rattle.std.specs.Option.{option_map}
 use Rattle.std.specs.List.{list_all}
 use Rattle.std.specs.Str.{bytes_eq}
@@ -14,6 +14,10 @@ use Rattle.semantics.proofs.Limits.{limits}
 use Rattle.deck_cards.specs.declared.facts.NodeFacts.{NodeFacts}
 use Rattle.deck_cards.specs.Facts.{place_of, source_of, farads_of, known, IsTable}
 use Rattle.deck_cards.proofs.Named.{and_both, read_named}
+
+-- what is known of the nodes of a deck is known of those of the same deck
+pub same_table : {a d : DeckValue} (row : List NodeFacts) → a ≡ d → row ≡ map (known a.elements) (nodes a) → IsTable d (nodes d) row
+same_table {d = d} row same is = record { names = refl; facts = subst (λ x. row ≡ map (known x.elements) (nodes x)) same is }
 
 -- ---- drivers
 

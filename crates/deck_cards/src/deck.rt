@@ -11,48 +11,32 @@ ghost use Rattle.deck_cards.specs.Part.{part_of};
 ghost use Rattle.deck_cards.specs.Settled.{settled};
 
 use crate::edit_refusal::EditRefusal;
-use crate::facts::NodeFacts;
-use crate::frame::Frame;
+use crate::kept::Kept;
 use crate::nodes::NodeTable;
 use crate::part::Part;
 use crate::parts::DeckParts;
 use crate::settled::Settled;
 use crate::{adding, counts, values};
-use indexmap::{IndexMap, IndexSet};
+use indexmap::IndexSet;
 use semantics::{Element, Name, Title, Wave};
 use std::alloc::{AllocError, Global};
 use std::marker::Model;
 use std::sync::Arc;
 
-/// A valid deck. A contract sees what its cards say, and that is always valid. All of it lies behind
-/// shared pointers, so that another deck can have the same, or what an edit leaves of it.
+/// A valid deck. A contract sees what its cards say, and that is always valid. It lies behind one
+/// shared pointer.
 #[derive(Drop)]
 pub struct Deck {
-    frame: Arc<Frame, Global>,
-    initial: Arc<IndexMap<Name, i64>, Global>,
-    elements: Arc<Vec<Element>, Global>,
-    /// The names of its elements, each at the element's place.
-    names: Arc<IndexSet<Name>, Global>,
-    /// The names of its nodes, by first appearance.
-    nodes: Arc<IndexSet<Name>, Global>,
-    /// What is known of each node, at the node's place.
-    facts: Arc<Vec<NodeFacts>, Global>,
+    kept: Arc<Kept, Global>,
 }
 
 impl Model for Deck {
     ghost use Rattle.std.specs.Arc.{arc_value};
     ghost use Rattle.semantics.specs.Deck.{DeckValue};
-    ghost use Rattle.deck_cards.specs.Cards.{framed};
-    ghost use Rattle.deck_cards.specs.Facts.{IsIndex};
 
     ghost Value = { DeckValue };
 
-    ghost view = { λ d. framed (arc_value d.frame) (arc_value d.initial).entries
-        (arc_value d.elements).items };
-
-    ghost invariant = { λ d. IsIndex (framed (arc_value d.frame) (arc_value d.initial).entries
-        (arc_value d.elements).items) (arc_value d.names).keys (arc_value d.nodes).keys
-        (arc_value d.facts).items };
+    ghost view = { λ d. arc_value d.kept };
 }
 
 /// Refuses cards for the first cause that no element alone can tell.
@@ -103,47 +87,15 @@ impl Deck {
     {
         let cards = Settled::of(alloc, parts)?;
         let (names, table) = look_ups(alloc, &cards)?;
-        Ok(Deck::kept(alloc, cards, names, table)?)
+        Ok(Deck::keeping(alloc, Kept::of(alloc, cards, names, table)?)?)
     }
 
-    /// The deck that these cards say, behind shared pointers, with the names of its elements and its
-    /// nodes.
-    fn kept(
-        alloc: Global,
-        cards: Settled,
-        names: IndexSet<Name>,
-        table: NodeTable,
-    ) -> Result<Deck, AllocError>
-        requires { IsIndex (deck_of cards) names.keys table.names.keys table.facts.items }
-        ensures { IfOk result (λ deck. deck ≡ deck_of cards) }
+    /// The deck of which this is kept.
+    fn keeping(alloc: Global, kept: Kept) -> Result<Deck, AllocError>
+        ensures { IfOk result (λ deck. deck ≡ kept) }
     {
-        let Settled {
-            title,
-            stop,
-            uic,
-            grain,
-            parts,
-            initial,
-            elements,
-        } = cards;
-        let NodeTable {
-            names: nodes,
-            facts,
-        } = table;
-        let frame = Frame {
-            title,
-            stop,
-            uic,
-            grain,
-            parts,
-        };
         Ok(Deck {
-            frame: Arc::new(alloc, frame)?,
-            initial: Arc::new(alloc, initial)?,
-            elements: Arc::new(alloc, elements)?,
-            names: Arc::new(alloc, names)?,
-            nodes: Arc::new(alloc, nodes)?,
-            facts: Arc::new(alloc, facts)?,
+            kept: Arc::new(alloc, kept)?,
         })
     }
 
@@ -153,56 +105,8 @@ impl Deck {
         ensures { IfOk result (λ deck. deck ≡ self.now) }
     {
         Ok(Deck {
-            frame: Arc::try_clone(&self.frame)?,
-            initial: Arc::try_clone(&self.initial)?,
-            elements: Arc::try_clone(&self.elements)?,
-            names: Arc::try_clone(&self.names)?,
-            nodes: Arc::try_clone(&self.nodes)?,
-            facts: Arc::try_clone(&self.facts)?,
+            kept: Arc::try_clone(&self.kept)?,
         })
-    }
-
-    /// Its models and tables by name.
-    fn parts(&self) -> &IndexMap<Name, Part>
-        ensures { map (λ p. (p.0, part_of p.1)) result.now.entries ≡ self.now.parts }
-    {
-        &self.frame.parts
-    }
-
-    /// The initial voltages by name.
-    fn voltages(&self) -> &IndexMap<Name, i64>
-        ensures { result.now.entries ≡ self.now.initial }
-    {
-        &self.initial
-    }
-
-    /// Its elements.
-    fn elements(&self) -> &[Element]
-        ensures { result.now ≡ self.now.elements }
-    {
-        self.elements.as_slice()
-    }
-
-    /// The names of its elements, each at the element's place.
-    fn element_names(&self) -> &IndexSet<Name>
-        ensures { result.now.keys ≡ map name_of self.now.elements }
-    {
-        &self.names
-    }
-
-    /// The names of its nodes, by first appearance.
-    fn node_names(&self) -> &IndexSet<Name>
-        ensures { result.now.keys ≡ nodes self.now }
-    {
-        &self.nodes
-    }
-
-    /// What is known of each node, at the node's place.
-    fn facts(&self) -> &Vec<NodeFacts>
-        ensures known { result.now.items ≡ map (known self.now.elements) (nodes self.now) }
-        ensures valid { IsTrue (is_valid self.now) }
-    {
-        &self.facts
     }
 
     /// The stop tick, in picoseconds.
@@ -210,7 +114,7 @@ impl Deck {
         ensures value { result ≡ self.now.stop }
         ensures valid { IsTrue (is_valid self.now) }
     {
-        self.frame.stop
+        self.kept.frame().stop
     }
 
     /// The grain of voltages, in microvolts.
@@ -218,28 +122,28 @@ impl Deck {
         ensures value { result ≡ self.now.grain }
         ensures valid { IsTrue (is_valid self.now) }
     {
-        self.frame.grain
+        self.kept.frame().grain
     }
 
     /// Whether a free node without an initial voltage begins at 0.
     pub fn uic(&self) -> bool
         ensures { result ≡ self.now.uic }
     {
-        self.frame.uic
+        self.kept.frame().uic
     }
 
     /// The first line of the deck.
     pub fn title(&self) -> &Title
         ensures { result.now ≡ self.now.title }
     {
-        &self.frame.title
+        &self.kept.frame().title
     }
 
     /// The number of elements.
     pub fn len(&self) -> usize
         ensures { result ≡ length self.now.elements }
     {
-        self.elements().len()
+        self.kept.elements().len()
     }
 
     /// The element at this place, in the order of the cards.
@@ -247,14 +151,14 @@ impl Deck {
         requires { place < length self.now.elements }
         ensures { slice_get self.now.elements place ≡ Some result.now }
     {
-        &self.elements()[place]
+        &self.kept.elements()[place]
     }
 
     /// The number of nodes; ground is none.
     pub fn node_count(&self) -> usize
         ensures { result ≡ length (nodes self.now) }
     {
-        self.node_names().len()
+        self.kept.node_names().len()
     }
 
     /// The name of this node, in the order of first appearance.
@@ -262,7 +166,7 @@ impl Deck {
         requires { i < length (nodes self.now) }
         ensures { slice_get (nodes self.now) i ≡ Some result.now }
     {
-        &self.node_names()[i]
+        &self.kept.node_names()[i]
     }
 
     /// The place of this name among the nodes. `None` exactly where it is none of them.
@@ -270,7 +174,7 @@ impl Deck {
         ensures found { IfSome result (λ i. slice_get (nodes self.now) i ≡ Some name.now) }
         ensures none { IfNone result (list_any (bytes_eq name.now) (nodes self.now) ≡ false) }
     {
-        self.node_names().get_index_of(name)
+        self.kept.node_names().get_index_of(name)
     }
 
     /// What drives this node: the voltage of a source, and whether the node is the source's second,
@@ -279,7 +183,7 @@ impl Deck {
         requires { i < length (nodes self.now) }
         ensures { IfSome (slice_get (nodes self.now) i) (λ n. driver self.now n ≡ option_map (λ d. (d.0.now, d.1)) result) }
     {
-        match self.facts()[i].source {
+        match self.kept.facts()[i].source {
             None => None,
             Some(place) => self.element(place).drive_of(self.node(i)),
         }
@@ -290,7 +194,7 @@ impl Deck {
         requires { i < length (nodes self.now) }
         ensures { IfSome (slice_get (nodes self.now) i) (λ n. result ≡ capacity self.now n) }
     {
-        self.facts()[i].farads.unsigned_abs() as u64
+        self.kept.facts()[i].farads.unsigned_abs() as u64
     }
 
     /// The voltage of this node at the beginning, in microvolts: the one that it is given, and else 0.
@@ -306,7 +210,7 @@ impl Deck {
     pub fn initial(&self, node: &Name) -> Option<i64>
         ensures { result ≡ look_up node.now self.now.initial }
     {
-        self.voltages().get(node).copied()
+        self.kept.voltages().get(node).copied()
     }
 
     /// The place of the element of this name, in the order of the cards. `None` exactly where no
@@ -315,14 +219,14 @@ impl Deck {
         ensures found { IfSome result (λ i. option_map name_of (slice_get self.now.elements i) ≡ Some name.now) }
         ensures none { IfNone result (list_any (λ e. bytes_eq name.now (name_of e)) self.now.elements ≡ false) }
     {
-        self.element_names().get_index_of(name)
+        self.kept.element_names().get_index_of(name)
     }
 
     /// The part of this name. `None` exactly where there is none.
     pub fn part(&self, name: &Name) -> Option<&Part>
         ensures { option_map (λ p. part_of p.now) result ≡ look_up name.now self.now.parts }
     {
-        self.parts().get(name)
+        self.kept.parts().get(name)
     }
 
     /// The place of the part of this name among the parts. `None` exactly where there is none.
@@ -331,7 +235,7 @@ impl Deck {
         ensures part { IfSome result (λ i. option_map (λ p. p.1) (slice_get self.now.parts i) ≡ look_up name.now self.now.parts) }
         ensures none { IfNone result (look_up name.now self.now.parts ≡ None) }
     {
-        self.parts().get_index_of(name)
+        self.kept.parts().get_index_of(name)
     }
 
     /// The part at this place.
@@ -339,7 +243,7 @@ impl Deck {
         requires { place < length self.now.parts }
         ensures { option_map (λ p. p.1) (slice_get self.now.parts place) ≡ Some (part_of result.now) }
     {
-        let (_, part) = self.parts().get_index(place).unwrap();
+        let (_, part) = self.kept.parts().get_index(place).unwrap();
         part
     }
 }

@@ -10,6 +10,7 @@ mod edits;
 mod elements;
 mod facts;
 mod frame;
+mod kept;
 pub mod laws;
 pub mod limits;
 mod nodes;

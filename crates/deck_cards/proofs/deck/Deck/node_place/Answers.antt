@@ -10,4 +10,4 @@ found_at n names nodes (Some i) is same = ap (λ l. slice_get l i) (sym same) �
 
 pub returns-clause-found : goal.returns-clause-found
 returns-clause-found c =
-    found_at c.args.name.now c.node_names.result.now.keys (nodes c.args.self.now) _ c.get_index_of.ensures.index c.node_names.ensures
+    found_at c.args.name.now c.node_names.result.now.keys (nodes c.args.self.now) _ c.get_index_of.ensures.index (c.node_names.ensures ∙ ap nodes (c.deref.ensures ∙ c.self.view_is))

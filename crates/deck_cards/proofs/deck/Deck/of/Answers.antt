@@ -40,14 +40,14 @@ valid cards parts same none each elements =
     let apart = once (deck_of cards) parts same in
     none_valid (deck_of cards) none apart.0 (list_all-map (λ p. is_part p.1) (λ p. (p.0, part_of p.1)) cards.parts.entries ∙ each) apart.1 elements
 
-pub kept-requires : goal.kept-requires
-kept-requires c = record { valid = valid c.in_ok-cards.cards c.args.parts c.in_ok-cards.ensures c.in_ok-names.ensures.cause c.in_ok-names.ensures.parts c.in_ok-names.ensures.elements; names = c.in_ok-names.ensures.names; table = c.in_ok-names.ensures.table }
+pub of-requires-2 : goal.of-requires-2
+of-requires-2 c = record { valid = valid c.in_ok-cards.cards c.args.parts c.in_ok-cards.ensures c.in_ok-names.ensures.cause c.in_ok-names.ensures.parts c.in_ok-names.ensures.elements; names = c.in_ok-names.ensures.names; table = c.in_ok-names.ensures.table }
 
 pub returns-clause-deck : goal.returns-clause-deck
-returns-clause-deck c = c.in_ok-kept.ensures ∙ c.in_ok-cards.ensures
+returns-clause-deck c = c.in_ok-keeping.ensures ∙ c.in_ok-of.ensures ∙ c.in_ok-cards.ensures
 
 pub returns-clause-valid : goal.returns-clause-valid
-returns-clause-valid c = subst (λ d. is_valid d ≡ true) (sym c.in_ok-kept.ensures)
+returns-clause-valid c = subst (λ d. is_valid d ≡ true) (sym (c.in_ok-keeping.ensures ∙ c.in_ok-of.ensures))
     (valid c.in_ok-cards.cards c.args.parts c.in_ok-cards.ensures c.in_ok-names.ensures.cause c.in_ok-names.ensures.parts c.in_ok-names.ensures.elements)
 
 pub returns-clause-cause : goal.returns-clause-cause
