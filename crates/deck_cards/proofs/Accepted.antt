@@ -233,7 +233,7 @@ within (Mos name drain gate source bulk model len width) rises none = inside_of 
 
 -- ---- one element more, one less
 
-all_more : (p : Element → Bool) (xs : List Element) (e : Element) → list_all p xs ≡ true → p e ≡ true → list_all p (xs ++ e ∷ []) ≡ true
+pub all_more : (p : Element → Bool) (xs : List Element) (e : Element) → list_all p xs ≡ true → p e ≡ true → list_all p (xs ++ e ∷ []) ≡ true
 all_more p [] e all is = λ i. is i && true
 all_more p (x ∷ xs) e all is = let h = and_both (p x) (list_all p xs) all in λ i. h.0 i && all_more p xs e h.1 is i
 

@@ -43,12 +43,12 @@ nodes_end seen = refl
 
 -- ---- exactly where there are few
 
+pub few_items : {A : Type 0} (xs : List A) → slice_get xs 100000 ≡ None → length xs ≤ 100000
+few_items xs h = elim (slice_get_cases xs 100000).1 [ inl w ↦ absurd (cc (w.2, h)) | inr p ↦ p.0 ]
+
 pub few_elements : (d : DeckValue) → many_elements d ≡ None → length d.elements ≤ 100000
 unfolding many_elements
 few_elements d none = few_items d.elements (none_map _ _ none)
-  where
-    few_items : {A : Type 0} (xs : List A) → slice_get xs 100000 ≡ None → length xs ≤ 100000
-    few_items xs h = elim (slice_get_cases xs 100000).1 [ inl w ↦ absurd (cc (w.2, h)) | inr p ↦ p.0 ]
 
 pub few_none : (es : List Element) (seen : List (List ℕ)) → length (fold with_node seen (flat_map ends_of es)) ≤ 100000 → many_nodes_from seen es ≡ None
 unfolding many_nodes_from

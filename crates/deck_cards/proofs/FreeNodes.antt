@@ -15,8 +15,8 @@ use Rattle.deck_cards.specs.declared.which.Which.TheVariants.{NodeFarads, Termin
 use Rattle.deck_cards.specs.Facts.{IsTable, known, farads_of, terminals_of}
 use Rattle.deck_cards.proofs.Meaning.{driver_known}
 
-module _ {X : Type 0} (p : X → Bool) (f : List ℕ → X) where
-  at_place : (names : List (List ℕ)) → slice_get names (position_or_len p (map f names)) ≡ first_that (λ n. p (f n)) names
+module _ {N X : Type 0} (p : X → Bool) (f : N → X) where
+  at_place : (names : List N) → slice_get names (position_or_len p (map f names)) ≡ first_that (λ n. p (f n)) names
   at_place [] = refl
   at_place (n ∷ ns) = by (p (f n)) (at_place ns)
     where
@@ -28,8 +28,8 @@ module _ {X : Type 0} (p : X → Bool) (f : List ℕ → X) where
       by true ih = refl
       by false ih = more (position_or_len p (map f ns)) ∙ ih
 
-  -- the name at the first place that passes
-  first_named : (names : List (List ℕ)) → option_and_then (slice_get names) (position p (map f names)) ≡ first_that (λ n. p (f n)) names
+  -- what stands at the first place that passes
+  pub first_named : (names : List N) → option_and_then (slice_get names) (position p (map f names)) ≡ first_that (λ n. p (f n)) names
   first_named names = by (nat_lt (position_or_len p (map f names)) (length (map f names))) refl ∙ at_place names
     where
       by : (b : Bool) → nat_lt (position_or_len p (map f names)) (length (map f names)) ≡ b

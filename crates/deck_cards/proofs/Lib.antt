@@ -1,9 +1,11 @@
 pub mod Accepted
 pub mod Added
+pub mod Alone
 pub mod Counting
 pub mod Differ
 pub mod Ends
 pub mod Firsts
+pub mod Finding
 pub mod FreeNodes
 pub mod Known
 pub mod Meaning
@@ -14,3 +16,4 @@ pub mod Swapped
 pub mod Touched
 pub mod Within
 pub mod Validity
+pub mod Whole

@@ -139,7 +139,7 @@ abbrev pub SameAtNodes : Element → Element → Type 0
 SameAtNodes x y = Alike x y × ((n : List ℕ) → farads_at n x ≡ farads_at n y)
 
 -- an edit that changes no capacitance
-set_alone : (d : DeckValue) (n : List ℕ) (f : Element → Option Element) (value : Option EditRefusal) → is_valid d ≡ true
+pub set_alone : (d : DeckValue) (n : List ℕ) (f : Element → Option Element) (value : Option EditRefusal) → is_valid d ≡ true
     → ((x y : Element) → f x ≡ Some y → SameAtNodes x y)
     → option_or (set_cause d n f) (whole_with value (elements_to d (set_named n f d.elements))) ≡ option_or (set_cause d n f) value
 set_alone d n f value valid same = by (set_cause d n f) refl
@@ -152,14 +152,14 @@ set_alone d n f value valid same = by (set_cause d n f) refl
         subst (λ es. whole_with value (elements_to d es) ≡ value) (sym s.made)
         (value_alone d (elements_to d (s.before ++ (s.new ∷ s.after))) value valid (swapped d s.before s.after s.old s.new s.was a.0) (λ m. same_farads d s.before s.after s.old s.new s.was m (a.1 m)))
 
-same_ohms : (ohms : ℤ) (x y : Element) → with_ohms ohms x ≡ Some y → SameAtNodes x y
+pub same_ohms : (ohms : ℤ) (x y : Element) → with_ohms ohms x ≡ Some y → SameAtNodes x y
 same_ohms ohms (Resistor name first second old) y is =
     subst (SameAtNodes (Resistor name first second old)) (some_same _ y is) (record { ends = refl; drives = λ n. refl; terminals = λ n. refl }, λ n. refl)
 same_ohms ohms (Capacitor name plus minus farads) y is = absurd (none-some y is)
 same_ohms ohms (Source name plus minus wave) y is = absurd (none-some y is)
 same_ohms ohms (Mos name drain gate source bulk part len width) y is = absurd (none-some y is)
 
-same_wave : (wave : List (ℕ × ℤ)) (x y : Element) → with_wave wave x ≡ Some y → SameAtNodes x y
+pub same_wave : (wave : List (ℕ × ℤ)) (x y : Element) → with_wave wave x ≡ Some y → SameAtNodes x y
 same_wave wave (Source name plus minus old) y is =
     subst (SameAtNodes (Source name plus minus old)) (some_same _ y is) (record { ends = refl; drives = λ n. by (bytes_eq n plus) (bytes_eq n minus); terminals = λ n. refl }, λ n. refl)
   where
@@ -171,7 +171,7 @@ same_wave wave (Resistor name first second ohms) y is = absurd (none-some y is)
 same_wave wave (Capacitor name plus minus farads) y is = absurd (none-some y is)
 same_wave wave (Mos name drain gate source bulk part len width) y is = absurd (none-some y is)
 
-same_part : (part : List ℕ) (x y : Element) → with_part part x ≡ Some y → SameAtNodes x y
+pub same_part : (part : List ℕ) (x y : Element) → with_part part x ≡ Some y → SameAtNodes x y
 same_part part (Mos name drain gate source bulk old len width) y is =
     subst (SameAtNodes (Mos name drain gate source bulk old len width)) (some_same _ y is) (record { ends = refl; drives = λ n. refl; terminals = λ n. refl }, λ n. refl)
 same_part part (Resistor name first second ohms) y is = absurd (none-some y is)

@@ -126,6 +126,14 @@ many_nodes d = many_nodes_from [] d.elements
 
 -- ---- the whole deck
 
+-- the first free node that lacks something
+unfoldable pub free_cause : DeckValue → Option EditRefusal
+free_cause d = first_of (uncapped d ∷ no_initial d ∷ [])
+
+-- what there is too much of
+unfoldable pub size_cause : DeckValue → Option EditRefusal
+size_cause d = first_of (many_elements d ∷ many_nodes d ∷ node_farads d ∷ many_terminals d ∷ [])
+
 -- what no element alone can tell, where this is the first value outside its limit
 abbrev pub whole_with : Option EditRefusal → DeckValue → Option EditRefusal
 whole_with value d = first_of (

@@ -50,6 +50,16 @@ with_part part (Resistor name first second ohms) = None
 with_part part (Capacitor name plus minus farads) = None
 with_part part (Source name plus minus wave) = None
 
+-- an element with the value that an edit gives; None where it is of another kind, or the edit gives no value
+abbrev pub changed : Edit → Element → Option Element
+changed (SetR name ohms) = with_ohms ohms
+changed (SetC name farads) = with_farads farads
+changed (SetWave name wave) = with_wave wave
+changed (SetModel name part) = with_part part
+changed (SetIc node volts) = λ e. None
+changed (Add element) = λ e. None
+changed (Remove name) = λ e. None
+
 -- ---- the deck after an edit
 
 -- the element of this name with the value, in its place

@@ -6,3 +6,4 @@ pub mod Cards
 pub mod Settled
 pub mod Edits
 pub mod Text
+pub mod Alone

@@ -21,7 +21,7 @@ use semantics::{Element, Name};
 use std::alloc::{AllocError, Global};
 
 /// Puts a name into a set, and says whether it is new.
-fn insert(set: &mut IndexSet<Name>, name: &Name) -> Result<bool, AllocError>
+pub fn insert(set: &mut IndexSet<Name>, name: &Name) -> Result<bool, AllocError>
     ensures fresh { IfOk result (λ fresh. fresh ≡ not (list_any (bytes_eq name.now) set.old.keys)) }
     ensures keys { IfOk result (λ fresh. fresh ≡ true → set.new.keys ≡ set.old.keys ++ name.now ∷ []) }
 {
@@ -59,7 +59,7 @@ pub fn check_part(parts: &IndexMap<Name, Part>, element: &Element) -> Result<(),
 }
 
 /// Refuses a capacitor or source that has not exactly one end at ground.
-fn check_grounded(element: &Element) -> Result<(), EditRefusal>
+pub fn check_grounded(element: &Element) -> Result<(), EditRefusal>
     ensures { Answers result (when (not (is_grounded element.now)) (refusal.NotGrounded (name_of element.now))) }
 {
     if !element.is_grounded() {

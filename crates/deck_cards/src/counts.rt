@@ -1,15 +1,13 @@
 //! How many elements and nodes a deck may have.
 
-ghost use Rattle.std.specs.Prelude.{◌≡◌, [], length, fold};
+ghost use Rattle.std.specs.Prelude.{◌≡◌, ◌≤◌, [], length, fold, OnOk};
 ghost use Rattle.std.specs.List.{flat_map};
-ghost use Rattle.semantics.specs.Deck.{ends_of, with_node};
+ghost use Rattle.semantics.specs.Deck.{DeckValue, ends_of, with_node};
 ghost use Rattle.deck_cards.specs.Answers.{Answers};
-ghost use Rattle.deck_cards.specs.Cards.{deck_of};
 ghost use Rattle.deck_cards.specs.Causes.{many_elements, many_nodes};
 
 use crate::edit_refusal::EditRefusal;
 use crate::nodes;
-use crate::settled::Settled;
 use crate::which::Which;
 use indexmap::IndexSet;
 use semantics::Element;
@@ -19,11 +17,12 @@ use std::alloc::Global;
 const MOST: usize = 100_000;
 
 /// Refuses the element that is one too many.
-#[tactic(auto, unfolding(crate::specs::Causes::many_elements))]
-pub fn check_elements(cards: &Settled) -> Result<(), EditRefusal>
-    ensures { Answers result (many_elements (deck_of cards.now)) }
+#[tactic(auto, using(crate::proofs::Counting::few_items), unfolding(crate::specs::Causes::many_elements))]
+pub fn check_elements(elements: &[Element]) -> Result<(), EditRefusal>
+    ensures few { OnOk result (length elements.now ≤ 100000) }
+    ensures cause { (d : DeckValue) → elements.now ≡ d.elements → Answers result (many_elements d) }
 {
-    match cards.elements.get(MOST) {
+    match elements.get(MOST) {
         None => Ok(()),
         Some(element) => {
             let name = element.name().copy()?;
@@ -33,15 +32,15 @@ pub fn check_elements(cards: &Settled) -> Result<(), EditRefusal>
 }
 
 /// Refuses the first element that names a node that is one too many, in a deck with this number of nodes.
-pub fn check_nodes(alloc: Global, count: usize, cards: &Settled) -> Result<(), EditRefusal>
-    requires { count ≡ length (fold with_node [] (flat_map ends_of cards.now.elements.items)) }
-    ensures { Answers result (many_nodes (deck_of cards.now)) }
+pub fn check_nodes(alloc: Global, count: usize, elements: &[Element]) -> Result<(), EditRefusal>
+    requires { count ≡ length (fold with_node [] (flat_map ends_of elements.now)) }
+    ensures { (d : DeckValue) → elements.now ≡ d.elements → Answers result (many_nodes d) }
 {
     if count <= MOST {
         return Ok(());
     }
     let mut names = IndexSet::new(alloc);
-    for element in &cards.elements {
+    for element in elements {
         nodes::add_ends(&mut names, element)?;
         if names.len() > MOST {
             let name = element.name().copy()?;

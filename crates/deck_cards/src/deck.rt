@@ -6,17 +6,19 @@ ghost use Rattle.semantics.specs.Valid.{is_valid, is_part, in_limits};
 ghost use Rattle.deck_cards.specs.Answers.{Answers};
 ghost use Rattle.deck_cards.specs.Cards.{deck_of};
 ghost use Rattle.deck_cards.specs.Causes.{whole_cause, deck_cause};
+ghost use Rattle.deck_cards.specs.Edits.{edit_cause, edited};
 ghost use Rattle.deck_cards.specs.Facts.{IsIndex, IsTable, known};
 ghost use Rattle.deck_cards.specs.Part.{part_of};
 ghost use Rattle.deck_cards.specs.Settled.{settled};
 
+use crate::edit::Edit;
 use crate::edit_refusal::EditRefusal;
 use crate::kept::Kept;
 use crate::nodes::NodeTable;
 use crate::part::Part;
 use crate::parts::DeckParts;
 use crate::settled::Settled;
-use crate::{adding, counts, values};
+use crate::{adding, apply, values};
 use indexmap::IndexSet;
 use semantics::{Element, Name, Title, Wave};
 use std::alloc::{AllocError, Global};
@@ -46,13 +48,9 @@ fn check_whole(alloc: Global, cards: &Settled, table: &NodeTable) -> Result<(), 
     ensures parts { OnOk result (list_all (λ p. is_part (part_of p.1)) cards.now.parts.entries ≡ true) }
     ensures elements { OnOk result (list_all in_limits cards.now.elements.items ≡ true) }
 {
-    table.check_capped()?;
-    table.check_initial(cards.uic, &cards.initial)?;
+    table.check_free(cards.uic, &cards.initial)?;
     values::check_values(alloc, cards)?;
-    counts::check_elements(cards)?;
-    counts::check_nodes(alloc, table.names.len(), cards)?;
-    table.check_farads()?;
-    table.check_terminals(alloc, cards)
+    table.check_sizes(alloc, &cards.elements)
 }
 
 /// The names of the elements of these cards, and their nodes, where the cards make a valid deck.
@@ -64,7 +62,7 @@ fn look_ups(alloc: Global, cards: &Settled) -> Result<(IndexSet<Name>, NodeTable
     ensures elements { IfOk result (λ found. list_all in_limits cards.now.elements.items ≡ true) }
 {
     let names = adding::add_each(alloc, cards)?;
-    let table = NodeTable::of(alloc, cards)?;
+    let table = NodeTable::of(alloc, &cards.elements)?;
     check_whole(alloc, cards, &table)?;
     Ok((names, table))
 }
@@ -107,6 +105,26 @@ impl Deck {
         Ok(Deck {
             kept: Arc::try_clone(&self.kept)?,
         })
+    }
+
+    /// The deck after an edit. This deck stays as it is.
+    ///
+    /// An element that is set keeps its place, and its value, where it is within its limit, can harm no
+    /// other: so no other element is tested, and no node but where a capacitance, an element or a source
+    /// comes or goes. What the edit leaves is shared with this deck.
+    ///
+    /// # Errors
+    ///
+    /// The first cause, in this order: `NoSuchName`, `WrongKind` and `NoSuchModel` of an element that is
+    /// set or taken out; `DuplicateName`, `NoSuchModel`, `NotGrounded` and `TwoDrivers` of one that is
+    /// added; then, of the deck that the edit would give, `Uncapped` and `NoInitial`; `Limit` of the
+    /// value of the edit; and `Limit` of elements, of nodes, of a node's capacitance and of its
+    /// terminals. `Memory` where memory is wanting.
+    pub fn apply(&self, alloc: Global, edit: &Edit) -> Result<Deck, EditRefusal>
+        ensures deck { IfOk result (λ deck. deck ≡ edited self.now edit.now) }
+        ensures cause { Answers result (edit_cause self.now edit.now) }
+    {
+        Ok(Deck::keeping(alloc, apply::edited(alloc, &self.kept, edit)?)?)
     }
 
     /// The stop tick, in picoseconds.

@@ -141,4 +141,65 @@ impl Kept {
     {
         &self.facts
     }
+
+    /// The same with other elements, of which the same is known.
+    pub fn with_elements(&self, alloc: Global, elements: Vec<Element>) -> Result<Kept, AllocError>
+        requires { IsIndex (record self.now { elements = elements.items }) (map name_of self.now.elements)
+            (nodes self.now) (map (known self.now.elements) (nodes self.now)) }
+        ensures { IfOk result (λ kept. kept ≡ record self.now { elements = elements.items }) }
+    {
+        Ok(Kept {
+            frame: Arc::try_clone(&self.frame)?,
+            initial: Arc::try_clone(&self.initial)?,
+            elements: Arc::new(alloc, elements)?,
+            names: Arc::try_clone(&self.names)?,
+            nodes: Arc::try_clone(&self.nodes)?,
+            facts: Arc::try_clone(&self.facts)?,
+        })
+    }
+
+    /// The same with other initial voltages.
+    pub fn with_voltages(
+        &self,
+        alloc: Global,
+        initial: IndexMap<Name, i64>,
+    ) -> Result<Kept, AllocError>
+        requires { IsTrue (is_valid (record self.now { initial = initial.entries })) }
+        ensures { IfOk result (λ kept. kept ≡ record self.now { initial = initial.entries }) }
+    {
+        Ok(Kept {
+            frame: Arc::try_clone(&self.frame)?,
+            initial: Arc::new(alloc, initial)?,
+            elements: Arc::try_clone(&self.elements)?,
+            names: Arc::try_clone(&self.names)?,
+            nodes: Arc::try_clone(&self.nodes)?,
+            facts: Arc::try_clone(&self.facts)?,
+        })
+    }
+
+    /// The same with other elements, their names and their nodes.
+    pub fn with_nodes(
+        &self,
+        alloc: Global,
+        elements: Vec<Element>,
+        names: IndexSet<Name>,
+        table: NodeTable,
+    ) -> Result<Kept, AllocError>
+        requires { IsIndex (record self.now { elements = elements.items }) names.keys table.names.keys
+            table.facts.items }
+        ensures { IfOk result (λ kept. kept ≡ record self.now { elements = elements.items }) }
+    {
+        let NodeTable {
+            names: nodes,
+            facts,
+        } = table;
+        Ok(Kept {
+            frame: Arc::try_clone(&self.frame)?,
+            initial: Arc::try_clone(&self.initial)?,
+            elements: Arc::new(alloc, elements)?,
+            names: Arc::new(alloc, names)?,
+            nodes: Arc::new(alloc, nodes)?,
+            facts: Arc::new(alloc, facts)?,
+        })
+    }
 }

@@ -2,6 +2,8 @@
 #![tactic(auto)]
 
 mod adding;
+mod apply;
+mod changed;
 mod counts;
 mod deck;
 mod edit;

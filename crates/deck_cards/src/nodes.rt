@@ -7,15 +7,13 @@ ghost use Rattle.std.specs.Option.{option_or};
 ghost use Rattle.semantics.specs.Deck.{DeckValue, ends_of, with_node};
 ghost use Rattle.semantics.specs.Valid.{differ, is_grounded};
 ghost use Rattle.deck_cards.specs.Answers.{Answers};
-ghost use Rattle.deck_cards.specs.Cards.{deck_of};
-ghost use Rattle.deck_cards.specs.Causes.{uncapped, no_initial, node_farads, many_terminals};
+ghost use Rattle.deck_cards.specs.Causes.{uncapped, no_initial, node_farads, many_terminals, free_cause, size_cause};
 ghost use Rattle.deck_cards.specs.Facts.{ChangesAt, IsTable, farads_of, known};
 
 use crate::edit_refusal::EditRefusal;
 use crate::facts::NodeFacts;
-use crate::settled::Settled;
 use crate::which::Which;
-use crate::{facts, terminals};
+use crate::{counts, facts, terminals};
 use indexmap::{IndexMap, IndexSet};
 use semantics::{Element, Name};
 use std::alloc::{AllocError, Global};
@@ -108,17 +106,17 @@ fn note_source(names: &IndexSet<Name>, facts: &mut [NodeFacts], name: &Name, sou
 }
 
 /// Takes the element at this place into what is known of the nodes.
-fn note_element(names: &IndexSet<Name>, facts: &mut [NodeFacts], cards: &Settled, place: usize)
+fn note_element(names: &IndexSet<Name>, facts: &mut [NodeFacts], elements: &[Element], place: usize)
     requires differ { differ names.now.keys ≡ true }
-    requires within { place < length cards.now.elements.items }
-    requires few { length cards.now.elements.items < 2 ^ 63 }
-    requires grounded { list_all is_grounded cards.now.elements.items ≡ true }
-    requires before { facts.old ≡ map (known (take place cards.now.elements.items)) names.now.keys }
-    requires small { (n : List ℕ) → unsigned_abs (farads_of n (take place cards.now.elements.items)) ≤ 2 ^ 63 * place }
-    ensures after { facts.new ≡ map (known (take (place + 1) cards.now.elements.items)) names.now.keys }
-    ensures small { (n : List ℕ) → unsigned_abs (farads_of n (take (place + 1) cards.now.elements.items)) ≤ 2 ^ 63 * (place + 1) }
+    requires within { place < length elements.now }
+    requires few { length elements.now < 2 ^ 63 }
+    requires grounded { list_all is_grounded elements.now ≡ true }
+    requires before { facts.old ≡ map (known (take place elements.now)) names.now.keys }
+    requires small { (n : List ℕ) → unsigned_abs (farads_of n (take place elements.now)) ≤ 2 ^ 63 * place }
+    ensures after { facts.new ≡ map (known (take (place + 1) elements.now)) names.now.keys }
+    ensures small { (n : List ℕ) → unsigned_abs (farads_of n (take (place + 1) elements.now)) ≤ 2 ^ 63 * (place + 1) }
 {
-    match &cards.elements[place] {
+    match &elements[place] {
         Element::Capacitor {
             plus,
             minus,
@@ -142,31 +140,32 @@ fn note_element(names: &IndexSet<Name>, facts: &mut [NodeFacts], cards: &Settled
 fn facts_of(
     alloc: Global,
     names: &IndexSet<Name>,
-    cards: &Settled,
+    elements: &[Element],
 ) -> Result<Vec<NodeFacts>, AllocError>
     requires differ { differ names.now.keys ≡ true }
-    requires grounded { list_all is_grounded cards.now.elements.items ≡ true }
-    ensures { IfOk result (λ facts. facts.items ≡ map (known cards.now.elements.items) names.now.keys) }
+    requires grounded { list_all is_grounded elements.now ≡ true }
+    ensures { IfOk result (λ facts. facts.items ≡ map (known elements.now) names.now.keys) }
 {
     let nothing = NodeFacts {
         source: None,
         farads: 0,
     };
     let mut facts = vec![in alloc; nothing; names.len()]?;
-    for place in 0..cards.elements.len() {
-        note_element(names, &mut facts, cards, place);
+    for place in 0..elements.len() {
+        note_element(names, &mut facts, elements, place);
     }
     Ok(facts)
 }
 
 impl NodeTable {
-    /// The nodes of these cards.
-    pub fn of(alloc: Global, cards: &Settled) -> Result<NodeTable, AllocError>
-        requires { list_all is_grounded cards.now.elements.items ≡ true }
-        ensures { IfOk result (λ table. IsTable (deck_of cards.now) table.names.keys table.facts.items) }
+    /// The nodes of a deck with these elements.
+    pub fn of(alloc: Global, elements: &[Element]) -> Result<NodeTable, AllocError>
+        requires { list_all is_grounded elements.now ≡ true }
+        ensures { (d : DeckValue) → elements.now ≡ d.elements
+            → IfOk result (λ table. IsTable d table.names.keys table.facts.items) }
     {
-        let names = names_of(alloc, &cards.elements)?;
-        let facts = facts_of(alloc, &names, cards)?;
+        let names = names_of(alloc, elements)?;
+        let facts = facts_of(alloc, &names, elements)?;
         Ok(NodeTable { names, facts })
     }
 
@@ -182,7 +181,7 @@ impl NodeTable {
     }
 
     /// Refuses the first free node that has no capacitance.
-    pub fn check_capped(&self) -> Result<(), EditRefusal>
+    fn check_capped(&self) -> Result<(), EditRefusal>
         ensures { (d : DeckValue) → IsTable d self.now.names.keys self.now.facts.items → Answers result (uncapped d) }
     {
         match self.named(facts::first_uncapped(&self.facts))? {
@@ -193,7 +192,7 @@ impl NodeTable {
 
     /// Refuses the first free node that has none of these initial voltages, where `uic` does not stand
     /// for it.
-    pub fn check_initial(&self, uic: bool, initial: &IndexMap<Name, i64>) -> Result<(), EditRefusal>
+    fn check_initial(&self, uic: bool, initial: &IndexMap<Name, i64>) -> Result<(), EditRefusal>
         ensures { (d : DeckValue) → IsTable d self.now.names.keys self.now.facts.items → uic ≡ d.uic → initial.now.entries ≡ d.initial → Answers result (no_initial d) }
     {
         let names = self.names.as_slice();
@@ -205,7 +204,7 @@ impl NodeTable {
     }
 
     /// Refuses the first free node whose capacitance is above 1 µF.
-    pub fn check_farads(&self) -> Result<(), EditRefusal>
+    fn check_farads(&self) -> Result<(), EditRefusal>
         ensures { (d : DeckValue) → IsTable d self.now.names.keys self.now.facts.items → Answers result (node_farads d) }
     {
         match self.named(facts::first_over_capped(&self.facts))? {
@@ -216,15 +215,39 @@ impl NodeTable {
 
     /// Refuses the first free node at which more than 1,000 ends stand that carry current. What it
     /// counts is kept no longer than the call.
-    pub fn check_terminals(&self, alloc: Global, cards: &Settled) -> Result<(), EditRefusal>
-        requires table { IsTable (deck_of cards.now) self.now.names.keys self.now.facts.items }
-        requires few { length cards.now.elements.items ≤ 100000 }
-        ensures { Answers result (many_terminals (deck_of cards.now)) }
+    fn check_terminals(&self, alloc: Global, elements: &[Element]) -> Result<(), EditRefusal>
+        requires differ { differ self.now.names.keys ≡ true }
+        requires few { length elements.now ≤ 100000 }
+        ensures { (d : DeckValue) → IsTable d self.now.names.keys self.now.facts.items
+            → elements.now ≡ d.elements → Answers result (many_terminals d) }
     {
-        let counts = terminals::counts_of(alloc, &self.names, &cards.elements)?;
+        let counts = terminals::counts_of(alloc, &self.names, elements)?;
         match self.named(facts::first_crowded(&self.facts, &counts))? {
             None => Ok(()),
             Some(name) => Err(EditRefusal::Limit(Which::Terminals, name)),
         }
+    }
+
+    /// Refuses the first free node that has no capacitance, and then the first that has no initial
+    /// voltage.
+    pub fn check_free(&self, uic: bool, initial: &IndexMap<Name, i64>) -> Result<(), EditRefusal>
+        ensures { (d : DeckValue) → IsTable d self.now.names.keys self.now.facts.items
+            → uic ≡ d.uic → initial.now.entries ≡ d.initial → Answers result (free_cause d) }
+    {
+        self.check_capped()?;
+        self.check_initial(uic, initial)
+    }
+
+    /// Refuses too many elements, too many nodes, and the first free node with too much capacitance
+    /// or too many ends that carry current.
+    pub fn check_sizes(&self, alloc: Global, elements: &[Element]) -> Result<(), EditRefusal>
+        requires { self.now.names.keys ≡ fold with_node [] (flat_map ends_of elements.now) }
+        ensures { (d : DeckValue) → IsTable d self.now.names.keys self.now.facts.items
+            → elements.now ≡ d.elements → Answers result (size_cause d) }
+    {
+        counts::check_elements(elements)?;
+        counts::check_nodes(alloc, self.names.len(), elements)?;
+        self.check_farads()?;
+        self.check_terminals(alloc, elements)
     }
 }

@@ -21,7 +21,10 @@ pub struct Settled {
 }
 
 /// These names and values, each name once: its last value holds, at the place of its first.
-fn each_once<V: Drop>(alloc: Global, pairs: Vec<(Name, V)>) -> Result<IndexMap<Name, V>, AllocError>
+pub fn each_once<V: Drop>(
+    alloc: Global,
+    pairs: Vec<(Name, V)>,
+) -> Result<IndexMap<Name, V>, AllocError>
     ensures { IfOk result (λ map. map.entries ≡ put_all pairs.items) }
 {
     let mut map = IndexMap::new(alloc);

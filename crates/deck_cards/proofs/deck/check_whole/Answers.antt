@@ -1,71 +1,38 @@
-use Rattle.std.proofs.Common.{◌∙◌, length, refl, sym, ap, subst}
-use Rattle.semantics.specs.Deck.{nodes}
+use Rattle.std.proofs.Common.{◌∙◌, [], fold, ap, refl, subst, sym}
+use Rattle.std.specs.List.{flat_map}
+use Rattle.semantics.specs.Deck.{nodes, ends_of, with_node}
 use Rattle.deck_cards.specs.Answers.{Answers}
 use Rattle.deck_cards.specs.Cards.{deck_of}
-use Rattle.deck_cards.specs.Causes.{whole_cause, many_terminals}
-use Rattle.deck_cards.proofs.Counting.{few_elements}
-use Rattle.deck_cards.proofs.Firsts.{handed_on, refuses_first, refuses_next, answers_next, or_none}
+use Rattle.deck_cards.specs.Causes.{value_limit, whole_cause}
+use Rattle.deck_cards.proofs.Firsts.{handed_on, refuses_first, refuses_next, answers_next}
+use Rattle.deck_cards.proofs.Whole.{whole_is}
 use Rattle.deck_cards.proofs.deck.check_whole.Goals as goal
 
--- ---- each refusal
-
-pub returns-in_err-check_capped-clause-cause : goal.returns-in_err-check_capped-clause-cause
+pub returns-in_err-check_free-clause-cause : goal.returns-in_err-check_free-clause-cause
 unfolding whole_cause
-returns-in_err-check_capped-clause-cause c =
+returns-in_err-check_free-clause-cause c =
     let d = deck_of c.args.cards.now in
-    let e = c.in_err-check_capped.field-0.0 in
-    handed_on c.from_residual.result e (whole_cause d) c.from_residual.ensures.1 (refuses_first e _ _ (c.in_err-check_capped.ensures d c.requires))
-
-pub returns-in_err-check_initial-clause-cause : goal.returns-in_err-check_initial-clause-cause
-unfolding whole_cause
-returns-in_err-check_initial-clause-cause c =
-    let d = deck_of c.args.cards.now in
-    let e = c.in_err-check_initial.field-0.0 in
-    handed_on c.from_residual-in_err-check_initial.result e (whole_cause d) c.from_residual-in_err-check_initial.ensures.1 (refuses_next e _ _ (c.in_ok-check_capped.ensures d c.requires) (refuses_first e _ _ (c.in_err-check_initial.ensures d c.requires refl refl)))
+    let e = c.in_err-check_free.field-0.0 in
+    let r = c.from_residual.result in
+    subst (Answers r) (sym (whole_is d (value_limit d))) (handed_on r e _ c.from_residual.ensures.1 (refuses_first e _ _ (c.in_err-check_free.ensures d c.requires refl refl)))
 
 pub returns-in_err-check_values-clause-cause : goal.returns-in_err-check_values-clause-cause
 unfolding whole_cause
 returns-in_err-check_values-clause-cause c =
     let d = deck_of c.args.cards.now in
     let e = c.in_err-check_values.field-0.0 in
-    handed_on c.from_residual-in_err-check_values.result e (whole_cause d) c.from_residual-in_err-check_values.ensures.1 (refuses_next e _ _ (c.in_ok-check_capped.ensures d c.requires) (refuses_next e _ _ (c.in_ok-check_initial.ensures d c.requires refl refl) (refuses_first e _ _ (c.in_err-check_values.ensures.cause))))
+    let r = c.from_residual-in_err-check_values.result in
+    subst (Answers r) (sym (whole_is d (value_limit d))) (handed_on r e _ c.from_residual-in_err-check_values.ensures.1
+    (refuses_next e _ _ (c.in_ok-check_free.ensures d c.requires refl refl) (refuses_first e _ _ c.in_err-check_values.ensures.cause)))
 
-pub returns-in_err-check_elements-clause-cause : goal.returns-in_err-check_elements-clause-cause
-unfolding whole_cause
-returns-in_err-check_elements-clause-cause c =
-    let d = deck_of c.args.cards.now in
-    let e = c.in_err-check_elements.field-0.0 in
-    handed_on c.from_residual-in_err-check_elements.result e (whole_cause d) c.from_residual-in_err-check_elements.ensures.1 (refuses_next e _ _ (c.in_ok-check_capped.ensures d c.requires) (refuses_next e _ _ (c.in_ok-check_initial.ensures d c.requires refl refl) (refuses_next e _ _ (c.in_ok-check_values.ensures.cause) (refuses_first e _ _ (c.in_err-check_elements.ensures)))))
-
-pub returns-in_err-check_nodes-clause-cause : goal.returns-in_err-check_nodes-clause-cause
-unfolding whole_cause
-returns-in_err-check_nodes-clause-cause c =
-    let d = deck_of c.args.cards.now in
-    let e = c.in_err-check_nodes.field-0.0 in
-    handed_on c.from_residual-in_err-check_nodes.result e (whole_cause d) c.from_residual-in_err-check_nodes.ensures.1 (refuses_next e _ _ (c.in_ok-check_capped.ensures d c.requires) (refuses_next e _ _ (c.in_ok-check_initial.ensures d c.requires refl refl) (refuses_next e _ _ (c.in_ok-check_values.ensures.cause) (refuses_next e _ _ (c.in_ok-check_elements.ensures) (refuses_first e _ _ (c.in_err-check_nodes.ensures))))))
-
-pub returns-in_err-check_farads-clause-cause : goal.returns-in_err-check_farads-clause-cause
-unfolding whole_cause
-returns-in_err-check_farads-clause-cause c =
-    let d = deck_of c.args.cards.now in
-    let e = c.in_err-check_farads.field-0.0 in
-    handed_on c.from_residual-in_err-check_farads.result e (whole_cause d) c.from_residual-in_err-check_farads.ensures.1 (refuses_next e _ _ (c.in_ok-check_capped.ensures d c.requires) (refuses_next e _ _ (c.in_ok-check_initial.ensures d c.requires refl refl) (refuses_next e _ _ (c.in_ok-check_values.ensures.cause) (refuses_next e _ _ (c.in_ok-check_elements.ensures) (refuses_next e _ _ (c.in_ok-check_nodes.ensures) (refuses_first e _ _ (c.in_err-check_farads.ensures d c.requires)))))))
-
--- ---- what a call asks
-
-pub check_nodes-requires : goal.check_nodes-requires
+pub check_sizes-requires : goal.check_sizes-requires
 unfolding nodes
-check_nodes-requires c = c.len.ensures.len ∙ ap length c.requires.names
-
-pub check_terminals-requires-clause-few : goal.check_terminals-requires-clause-few
-check_terminals-requires-clause-few c = few_elements (deck_of c.args.cards.now) c.in_ok-check_elements.ensures
-
--- ---- the last
+check_sizes-requires c = c.requires.names ∙ ap (λ es. fold with_node [] (flat_map ends_of es)) (sym c.deref.ensures.value)
 
 pub returns-clause-cause : goal.returns-clause-cause
 unfolding whole_cause
 returns-clause-cause c =
     let d = deck_of c.args.cards.now in
-    let r = c.check_terminals.result in
-    answers_next r _ _ (c.in_ok-check_capped.ensures d c.requires) (answers_next r _ _ (c.in_ok-check_initial.ensures d c.requires refl refl) (answers_next r _ _ c.in_ok-check_values.ensures.cause (answers_next r _ _ c.in_ok-check_elements.ensures (answers_next r _ _ c.in_ok-check_nodes.ensures (answers_next r _ _ (c.in_ok-check_farads.ensures d c.requires)
-    (subst (Answers r) (sym (or_none (many_terminals d))) c.check_terminals.ensures))))))
+    let r = c.check_sizes.result in
+    subst (Answers r) (sym (whole_is d (value_limit d)))
+    (answers_next r _ _ (c.in_ok-check_free.ensures d c.requires refl refl) (answers_next r _ _ c.in_ok-check_values.ensures.cause (c.check_sizes.ensures d c.requires c.deref.ensures.value)))

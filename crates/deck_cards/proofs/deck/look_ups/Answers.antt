@@ -1,5 +1,7 @@
-use Rattle.std.proofs.Common.{[], refl}
+use Rattle.std.proofs.Common.{◌≡◌, [], true, refl, subst, sym}
+use Rattle.std.specs.List.{list_all}
 use Rattle.std.specs.Option.{option_or}
+use Rattle.semantics.specs.Valid.{is_grounded}
 use Rattle.deck_cards.specs.Cards.{deck_of}
 use Rattle.deck_cards.specs.Causes.{deck_cause}
 use Rattle.deck_cards.proofs.Added.{can_add}
@@ -20,7 +22,7 @@ returns-in_err-check_whole-clause-cause c =
     (refuses_next e _ _ c.in_ok-names.ensures.cause c.in_err-check_whole.ensures.cause)
 
 pub of-requires : goal.of-requires
-of-requires c = (can_add (deck_of c.args.cards.now) [] c.args.cards.now.elements.items c.in_ok-names.ensures.cause refl refl).grounded
+of-requires c = subst (λ es. list_all is_grounded es ≡ true) (sym c.deref.ensures.value) (can_add (deck_of c.args.cards.now) [] c.args.cards.now.elements.items c.in_ok-names.ensures.cause refl refl).grounded
 
 pub returns-clause-cause : goal.returns-clause-cause
 unfolding deck_cause

@@ -4,6 +4,6 @@ use Rattle.deck_cards.proofs.nodes.facts_of.Given as goal
 
 abbrev pub invariant-loop-place : goal.invariant-loop-place
 invariant-loop-place l = record {
-  facts : l.facts.items ≡ map (known (take l.place l.cards.elements.items)) l.names.keys;
-  small : (n : List ℕ) → unsigned_abs (farads_of n (take l.place l.cards.elements.items)) ≤ 2 ^ 63 * l.place;
+  facts : l.facts.items ≡ map (known (take l.place l.elements)) l.names.keys;
+  small : (n : List ℕ) → unsigned_abs (farads_of n (take l.place l.elements)) ≤ 2 ^ 63 * l.place;
 }

@@ -14,20 +14,20 @@ use Rattle.deck_cards.proofs.nodes.note_element.Goals as goal
 
 pub returns-in-Resistor-clause-after : goal.returns-in-Resistor-clause-after
 returns-in-Resistor-clause-after c =
-    let es = c.args.cards.now.elements.items in
-    known-more es c.args.place _ _ c.args.names.now.keys _ c.requires.within (sym c.in-Resistor.is ∙ c.index.ensures)
+    let es = c.args.elements.now in
+    known-more es c.args.place _ _ c.args.names.now.keys _ c.requires.within (sym c.in-Resistor.is ∙ c.index-elements-place.is)
     (c.requires.before ∙ (λ i. map (λ n. untouched (known (take c.args.place es) n) i) c.args.names.now.keys))
 
 pub returns-in-Mos-clause-after : goal.returns-in-Mos-clause-after
 returns-in-Mos-clause-after c =
-    let es = c.args.cards.now.elements.items in
-    known-more es c.args.place _ _ c.args.names.now.keys _ c.requires.within (sym c.in-Mos.is ∙ c.index.ensures)
+    let es = c.args.elements.now in
+    known-more es c.args.place _ _ c.args.names.now.keys _ c.requires.within (sym c.in-Mos.is ∙ c.index-elements-place.is)
     (c.requires.before ∙ (λ i. map (λ n. untouched (known (take c.args.place es) n) i) c.args.names.now.keys))
 
 pub returns-in-Source-clause-after : goal.returns-in-Source-clause-after
 returns-in-Source-clause-after c =
-    let es = c.args.cards.now.elements.items in
-    known-more es c.args.place _ _ c.args.names.now.keys _ c.requires.within (sym c.in-Source.is ∙ c.index.ensures)
+    let es = c.args.elements.now in
+    known-more es c.args.place _ _ c.args.names.now.keys _ c.requires.within (sym c.in-Source.is ∙ c.index-elements-place.is)
     (twice _ c.in-Source.plus c.in-Source.minus (λ f. record f { source = option_or f.source (Some c.args.place) }) _ _ _ _ _ c.requires.before c.note_source.ensures c.note_source-in-Source.ensures
     (λ n. sourced (bytes_eq n c.in-Source.plus) (bytes_eq n c.in-Source.minus) c.args.place c.in-Source.wave (known (take c.args.place es) n)))
 
@@ -40,8 +40,8 @@ widened x r fits is =
 
 pub returns-in-Capacitor-clause-after : goal.returns-in-Capacitor-clause-after
 returns-in-Capacitor-clause-after c =
-    let es = c.args.cards.now.elements.items in
-    let at = sym c.in-Capacitor.is ∙ c.index.ensures in
+    let es = c.args.elements.now in
+    let at = sym c.in-Capacitor.is ∙ c.index-elements-place.is in
     let one = subst (λ e. is_grounded e ≡ true) (sym at) (each_passes is_grounded es c.args.place _ c.requires.grounded c.requires.within) in
     let fits : SFits w64 c.in-Capacitor.farads = search rules in
     let same = widened c.in-Capacitor.farads c.from-farads.result fits c.from-farads.ensures in
@@ -53,20 +53,20 @@ returns-in-Capacitor-clause-after c =
 
 pub returns-in-Resistor-clause-small : goal.returns-in-Resistor-clause-small
 returns-in-Resistor-clause-small c =
-    small-more c.args.cards.now.elements.items c.args.place c.index.result.now _ c.requires.within c.index.ensures (subst CanHold (sym c.in-Resistor.is) tt) c.requires.small
+    small-more c.args.elements.now c.args.place _ _ c.requires.within c.index-elements-place.is (subst CanHold (sym c.in-Resistor.is) tt) c.requires.small
 
 pub returns-in-Mos-clause-small : goal.returns-in-Mos-clause-small
 returns-in-Mos-clause-small c =
-    small-more c.args.cards.now.elements.items c.args.place c.index.result.now _ c.requires.within c.index.ensures (subst CanHold (sym c.in-Mos.is) tt) c.requires.small
+    small-more c.args.elements.now c.args.place _ _ c.requires.within c.index-elements-place.is (subst CanHold (sym c.in-Mos.is) tt) c.requires.small
 
 pub returns-in-Source-clause-small : goal.returns-in-Source-clause-small
 returns-in-Source-clause-small c =
-    small-more c.args.cards.now.elements.items c.args.place c.index.result.now _ c.requires.within c.index.ensures (subst CanHold (sym c.in-Source.is) tt) c.requires.small
+    small-more c.args.elements.now c.args.place _ _ c.requires.within c.index-elements-place.is (subst CanHold (sym c.in-Source.is) tt) c.requires.small
 
 pub returns-in-Capacitor-clause-small : goal.returns-in-Capacitor-clause-small
 returns-in-Capacitor-clause-small c =
     let fits : SFits w64 c.in-Capacitor.farads = search rules in
-    small-more c.args.cards.now.elements.items c.args.place c.index.result.now _ c.requires.within c.index.ensures (subst CanHold (sym c.in-Capacitor.is) fits) c.requires.small
+    small-more c.args.elements.now c.args.place _ _ c.requires.within c.index-elements-place.is (subst CanHold (sym c.in-Capacitor.is) fits) c.requires.small
 
 -- ---- each addition has room
 
@@ -82,11 +82,11 @@ add_farads-requires-clause-room c =
     let fits : SFits w64 c.in-Capacitor.farads = search rules in
     let same = widened c.in-Capacitor.farads c.from-farads.result fits c.from-farads.ensures in
     every_value _ (λ f. SFits w128 (f.farads +ℤ to_z w128 (of_z w128 c.from-farads.result))) _ _ c.requires.before
-    (λ n. room false (known (take c.args.place c.args.cards.now.elements.items) n) _ _ c.args.place (c.requires.small n) (omega (arith, c.requires.within, c.requires.few)) fits same)
+    (λ n. room false (known (take c.args.place c.args.elements.now) n) _ _ c.args.place (c.requires.small n) (omega (arith, c.requires.within, c.requires.few)) fits same)
 
 pub add_farads-requires-in-Capacitor-clause-room : goal.add_farads-requires-in-Capacitor-clause-room
 add_farads-requires-in-Capacitor-clause-room c =
     let fits : SFits w64 c.in-Capacitor.farads = search rules in
     let same = widened c.in-Capacitor.farads c.from-farads.result fits c.from-farads.ensures in
     every_value _ (λ f. SFits w128 (f.farads +ℤ to_z w128 (of_z w128 c.from-farads.result))) _ _ (c.add_farads.ensures _ c.requires.before)
-    (λ n. room (bytes_eq n c.in-Capacitor.plus) (known (take c.args.place c.args.cards.now.elements.items) n) _ _ c.args.place (c.requires.small n) (omega (arith, c.requires.within, c.requires.few)) fits same)
+    (λ n. room (bytes_eq n c.in-Capacitor.plus) (known (take c.args.place c.args.elements.now) n) _ _ c.args.place (c.requires.small n) (omega (arith, c.requires.within, c.requires.few)) fits same)
