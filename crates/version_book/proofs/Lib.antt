@@ -1,0 +1,3 @@
+pub mod WaveLines
+pub mod NamedNodes
+pub mod KeptWaves
