@@ -6,7 +6,11 @@
 #[cfg(test)]
 mod cards;
 #[cfg(test)]
+mod circuits;
+#[cfg(test)]
 mod elements;
+#[cfg(test)]
+mod records;
 #[cfg(test)]
 mod runs;
 #[cfg(test)]
