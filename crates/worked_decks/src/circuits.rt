@@ -144,7 +144,7 @@ fn kept_faults(alloc: Global, text: &str, node: u32) -> Option<(Option<u64>, usi
     count(alloc, &circuit, &past, node)
 }
 
-/// The record in which each free node keeps its first pair, but this node has 1 aC at tick 0.
+/// The record in which each free node keeps its first pair, but this node has the numerator 1 at tick 0.
 fn jumped(alloc: Global, circuit: &Circuit, node: u32) -> Result<Histories, AllocError>
     ensures { IfOk result (λ past. IsRecordOf circuit.now past.stop (keeps past)) }
 {
