@@ -1,0 +1,3 @@
+pub mod Cut
+pub mod Waves
+pub mod Events
