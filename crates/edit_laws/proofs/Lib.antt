@@ -1,0 +1,5 @@
+pub mod Same
+pub mod Stretch
+pub mod Edited
+pub mod After
+pub mod Changed
