@@ -16,7 +16,7 @@ use Rattle.deck_cards.specs.Edits.{edit_cause, edited, named, place_cause, set_c
 use Rattle.deck_cards.proofs.Accepted.{found_cause, kind_cause, placed, stays_valid}
 use Rattle.deck_cards.proofs.Firsts.{none_when}
 use Rattle.deck_cards.proofs.Standing.{found}
-use Rattle.edit_laws.specs.Accepted.{IsAccepted, SameCards}
+use Rattle.edit_laws.specs.Accepted.{IsAccepted, KeepsFrame}
 use Rattle.edit_laws.specs.Changed.{Comes, Goes, element_after, element_before}
 use Rattle.edit_laws.proofs.Same.{same_option}
 use Rattle.edit_laws.proofs.Stretch.{Stretch, all_of, alone_in}
@@ -95,15 +95,15 @@ changes d e x h = (to, from)
 
 -- ---- the edit
 
-pub same_cards : (d : DeckValue) (e : Edit) → SameCards d (edited d e)
+pub keeps_frame : (d : DeckValue) (e : Edit) → KeepsFrame d (edited d e)
 unfolding edited
-same_cards d (SetR name ohms) = record { frame = record { stop = refl; grain = refl; parts = refl }; title = refl; uic = refl }
-same_cards d (SetC name farads) = record { frame = record { stop = refl; grain = refl; parts = refl }; title = refl; uic = refl }
-same_cards d (SetWave name wave) = record { frame = record { stop = refl; grain = refl; parts = refl }; title = refl; uic = refl }
-same_cards d (SetModel name part) = record { frame = record { stop = refl; grain = refl; parts = refl }; title = refl; uic = refl }
-same_cards d (SetIc node volts) = record { frame = record { stop = refl; grain = refl; parts = refl }; title = refl; uic = refl }
-same_cards d (Add e) = record { frame = record { stop = refl; grain = refl; parts = refl }; title = refl; uic = refl }
-same_cards d (Remove name) = record { frame = record { stop = refl; grain = refl; parts = refl }; title = refl; uic = refl }
+keeps_frame d (SetR name ohms) = record { frame = record { stop = refl; grain = refl; parts = refl }; title = refl; uic = refl }
+keeps_frame d (SetC name farads) = record { frame = record { stop = refl; grain = refl; parts = refl }; title = refl; uic = refl }
+keeps_frame d (SetWave name wave) = record { frame = record { stop = refl; grain = refl; parts = refl }; title = refl; uic = refl }
+keeps_frame d (SetModel name part) = record { frame = record { stop = refl; grain = refl; parts = refl }; title = refl; uic = refl }
+keeps_frame d (SetIc node volts) = record { frame = record { stop = refl; grain = refl; parts = refl }; title = refl; uic = refl }
+keeps_frame d (Add e) = record { frame = record { stop = refl; grain = refl; parts = refl }; title = refl; uic = refl }
+keeps_frame d (Remove name) = record { frame = record { stop = refl; grain = refl; parts = refl }; title = refl; uic = refl }
 
 pub one_edit : (d : DeckValue) (e : Edit) → IsAccepted d e → IsEdit d (edited d e)
 one_edit d e h = by (same_option (element_before d e) (element_after d e))
@@ -112,9 +112,9 @@ one_edit d e h = by (same_option (element_before d e) (element_after d e))
     s = stretch d e h.valid h.free
 
     by : (element_before d e ≡ element_after d e) ⊎ (element_before d e ≢ element_after d e) → IsEdit d (edited d e)
-    by (inl same) = edit_initial d (edited d e) (same_cards d e).frame (s.now ∙ (ap (λ o. s.before ++ (option_to_list o ++ s.after)) (sym same) ∙ sym s.was))
+    by (inl same) = edit_initial d (edited d e) (keeps_frame d e).frame (s.now ∙ (ap (λ o. s.before ++ (option_to_list o ++ s.after)) (sym same) ∙ sym s.was))
     by (inr other) = record {
-      frame = (same_cards d e).frame;
+      frame = (keeps_frame d e).frame;
       before = s.before;
       gone = option_to_list (element_before d e);
       come = option_to_list (element_after d e);

@@ -3,3 +3,4 @@ pub mod Stretch
 pub mod Edited
 pub mod After
 pub mod Changed
+pub mod Kept

@@ -19,8 +19,8 @@ pub record AreAccepted (d : DeckValue) (es : List Edit) : Type 0 where
   pub rise : list_all edit_rises es ≡ true
   pub taken : accepts d es ≡ true
 
--- two decks that differ in initial voltages and elements alone
-pub record SameCards (old new : DeckValue) : Type 0 where
+-- the new deck has all but initial voltages and elements as the old one has it
+pub record KeepsFrame (old new : DeckValue) : Type 0 where
   pub frame : SameFrame old new
   pub title : new.title ≡ old.title
   pub uic : new.uic ≡ old.uic

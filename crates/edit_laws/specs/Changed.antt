@@ -1,7 +1,8 @@
 -- What an edit changes in a deck that accepts it: the element that goes, the one that comes, and the initial voltage.
 use Rattle.std.specs.Prelude.{◌≡◌, ◌≢◌, ℤ, Option, Some, None, option_and_then}
 use Rattle.semantics.specs.declared.element.Element.{Element}
-use Rattle.semantics.specs.Deck.{Name, DeckValue, initial_of}
+use Rattle.semantics.specs.Deck.{Name, DeckValue, ends_of, initial_of, name_of}
+use Rattle.semantics.specs.Edit.{is_voltage_source}
 use Rattle.deck_cards.specs.declared.edit.Edit.{Edit}
 use Rattle.deck_cards.specs.declared.edit.Edit.TheVariants.{SetR, SetC, SetWave, SetModel, SetIc, Add, Remove}
 use Rattle.deck_cards.specs.Edits.{named, with_ohms, with_farads, with_wave, with_part}
@@ -25,6 +26,12 @@ element_after d (SetWave name wave) = option_and_then (with_wave wave) (named na
 element_after d (SetModel name part) = option_and_then (with_part part) (named name d.elements)
 element_after d (SetIc node volts) = None
 element_after d (Remove name) = None
+
+-- two elements with one name and the same ends, both sources or neither
+pub record KeepsEnds (x y : Element) : Type 0 where
+  pub name : name_of y ≡ name_of x
+  pub ends : ends_of y ≡ ends_of x
+  pub source : is_voltage_source y ≡ is_voltage_source x
 
 -- the element is taken out, or is set to another one
 abbrev pub Goes : DeckValue → Edit → Element → Type 0
