@@ -4,3 +4,4 @@ pub mod Edited
 pub mod After
 pub mod Changed
 pub mod Kept
+pub mod Through

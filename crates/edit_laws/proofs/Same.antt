@@ -63,7 +63,7 @@ decides_card a b = Decides-like (same_card a b)
     (pointwise_decides decides_point a.points b.points))))
 
 -- two elements are the same, or they differ
-same_element : (x y : Element) → (x ≡ y) ⊎ (x ≢ y)
+pub same_element : (x y : Element) → (x ≡ y) ⊎ (x ≢ y)
 same_element x y = by (same_card (card x) (card y)) refl
   where
     by : (b : Bool) → same_card (card x) (card y) ≡ b → (x ≡ y) ⊎ (x ≢ y)

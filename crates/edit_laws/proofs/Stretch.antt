@@ -21,7 +21,7 @@ pub record Stretch (old new : List Element) (o p : Option Element) : Type 0 wher
 
 -- ---- what stands in such a list
 
-in_head : (x y : Element) (es : List Element) → Contains (y ∷ es) x → (y ≡ x) ⊎ Contains es x
+pub in_head : (x y : Element) (es : List Element) → Contains (y ∷ es) x → (y ≡ x) ⊎ Contains es x
 in_head x y es at = by at.0 at.1 at.2
   where
     by : (k : ℕ) → k < length (y ∷ es) → get_or (y ∷ es) k x ≡ x → (y ≡ x) ⊎ Contains es x

@@ -57,3 +57,13 @@ pub fn law_changed()
     ensures initial { (d : DeckValue) (e : Edit) (n : Name)
         → (initial_of d n ≢ initial_of (edited d e) n) ↔ Gives d e n }
 {}
+
+/// What is changed between two decks is changed on the way through any third: from the first to the
+/// third, or from there to the second. So what several edits change each of them tells in turn.
+pub fn law_through()
+    ensures elements { (old mid new : DeckValue) (x : Element)
+        → IsChanged old new x → IsChanged old mid x ⊎ IsChanged mid new x }
+    ensures initial { (old mid new : DeckValue) (n : Name)
+        → initial_of old n ≢ initial_of new n
+        → (initial_of old n ≢ initial_of mid n) ⊎ (initial_of mid n ≢ initial_of new n) }
+{}
