@@ -1,0 +1,5 @@
+pub mod Alike
+pub mod Marking
+pub mod Ranges
+pub mod Around
+pub mod Nearness
