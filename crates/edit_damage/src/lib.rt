@@ -6,3 +6,6 @@ mod marks;
 mod same;
 
 pub use damage::damaged;
+
+#[cfg(test)]
+mod tests;
