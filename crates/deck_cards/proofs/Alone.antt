@@ -18,7 +18,7 @@ use Rattle.deck_cards.proofs.Standing.{elements_to, some_same}
 use Rattle.deck_cards.proofs.Swapped.{map_swap, fold_swap}
 use Rattle.deck_cards.proofs.Touched.{Alike, SameAtNodes, Sets, sets, swapped, set_alone, same_ohms, same_wave, same_part}
 
-place_swap : (p : Element → Bool) (x y : Element) (before after : List Element) → p x ≡ p y → place_of p (before ++ (x ∷ after)) ≡ place_of p (before ++ (y ∷ after))
+pub place_swap : (p : Element → Bool) (x y : Element) (before after : List Element) → p x ≡ p y → place_of p (before ++ (x ∷ after)) ≡ place_of p (before ++ (y ∷ after))
 place_swap p x y [] after same = λ i. cond (same i) (Some 0) (option_map (λ k. k + 1) (place_of p after))
 place_swap p x y (b ∷ bs) after same = λ i. cond (p b) (Some 0) (option_map (λ k. k + 1) (place_swap p x y bs after same i))
 

@@ -67,7 +67,7 @@ or_none : (o : Option ℕ) → o ≡ option_or o None
 or_none None = refl
 or_none (Some x) = refl
 
-no_farads : (z : ℤ) → z ≡ z +ℤ pos 0
+pub no_farads : (z : ℤ) → z ≡ z +ℤ pos 0
 no_farads z = omega (arith, ints)
 
 -- ---- what an element at its ends adds is what the code adds end by end

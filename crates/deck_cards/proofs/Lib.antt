@@ -1,6 +1,7 @@
 pub mod Accepted
 pub mod Added
 pub mod Alone
+pub mod AtNode
 pub mod Counting
 pub mod Differ
 pub mod Ends

@@ -7,3 +7,4 @@ pub mod Settled
 pub mod Edits
 pub mod Text
 pub mod Alone
+pub mod AtNode

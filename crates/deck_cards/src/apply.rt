@@ -9,6 +9,7 @@ ghost use Rattle.deck_cards.specs.Answers.{Answers};
 ghost use Rattle.deck_cards.specs.Causes.{when, first_that, add_cause, is_driven, is_named, whole_with};
 ghost use Rattle.deck_cards.specs.Edits.{changed, edit_cause, edit_limit, edit_rises, edited, element_rises, has_rising, named, place_cause, set_cause, without_name, has_name};
 ghost use Rattle.deck_cards.specs.Alone.{IsAlone};
+ghost use Rattle.deck_cards.specs.AtNode.{IsAtNode, node_cause, sum_cause};
 ghost use Rattle.deck_cards.specs.Facts.{IsTable};
 ghost use Rattle.deck_cards.specs.Settled.{put};
 ghost use Rattle.deck_cards.specs.declared.edit.Edit.TheVariants as edit_of;
@@ -16,11 +17,12 @@ ghost use Rattle.deck_cards.specs.declared.edit_refusal.EditRefusal.TheVariants 
 
 use crate::edit::Edit;
 use crate::edit_refusal::EditRefusal;
+use crate::facts::NodeFacts;
 use crate::kept::Kept;
 use crate::nodes::NodeTable;
 use crate::values::{self, element_limit, wave_limit};
 use crate::which::Which;
-use crate::{adding, changed, limits, settled};
+use crate::{adding, changed, limits, nodes, settled};
 use indexmap::{IndexMap, IndexSet};
 use semantics::{Element, Name, Wave};
 use std::alloc::{AllocError, Global};
@@ -185,16 +187,94 @@ fn known(kept: &Kept)
     kept.frame();
 }
 
-/// Sets a capacitance.
-fn set_farads(alloc: Global, kept: &Kept, name: &Name, edit: &Edit) -> Result<Kept, EditRefusal>
-    requires { (farads : ℤ) × (edit.now ≡ edit_of.SetC name.now farads) }
+/// Refuses what the sum of the capacitors at a free node has against it, and the value of the edit.
+fn check_sum(edit: &Edit, node: &Name, farads: i128) -> Result<(), EditRefusal>
+    ensures { Answers result (sum_cause node.now (edit_limit edit.now) farads) }
+{
+    if farads == 0 {
+        return Err(EditRefusal::Uncapped(node.copy()?));
+    }
+    check_limit(edit)?;
+    if 1_000_000_000_000 < farads {
+        return Err(EditRefusal::Limit(Which::NodeFarads, node.copy()?));
+    }
+    Ok(())
+}
+
+/// Refuses what one node of the deck after the edit has against it, and the value of the edit.
+fn check_node(
+    edit: &Edit,
+    names: &IndexSet<Name>,
+    facts: &[NodeFacts],
+    node: &Name,
+) -> Result<(), EditRefusal>
+    requires { length facts.now ≡ length names.now.keys }
+    ensures { (d : DeckValue) → IsTable d names.now.keys facts.now
+        → Answers result (node_cause d node.now (edit_limit edit.now)) }
+{
+    match nodes::free_farads(names, facts, node) {
+        None => check_limit(edit),
+        Some(farads) => check_sum(edit, node, farads),
+    }
+}
+
+/// Sets a value that makes the sum at one node so much more, and that no other node and no other
+/// element can have anything against.
+fn set_at_node(
+    alloc: Global,
+    kept: &Kept,
+    name: &Name,
+    edit: &Edit,
+    node: &Name,
+    more: &i128,
+) -> Result<Kept, EditRefusal>
+    requires { IsAtNode kept.now name.now node.now more.now edit.now }
+    ensures kept { IfOk result (λ new. new ≡ edited kept.now edit.now) }
+    ensures cause { Answers result (edit_cause kept.now edit.now) }
+{
+    let names = kept.node_names();
+    let facts = nodes::with_farads(names, kept.facts(), node, more)?;
+    check_node(edit, names, &facts, node)?;
+    let elements = changed::set_named(alloc, kept.elements(), name, edit)?;
+    Ok(kept.with_facts(alloc, elements, facts)?)
+}
+
+/// Sets the capacitance of this element.
+fn set_capacitor(
+    alloc: Global,
+    kept: &Kept,
+    element: &Element,
+    name: &Name,
+    farads: i64,
+    edit: &Edit,
+) -> Result<Kept, EditRefusal>
+    requires named { named name.now kept.now.elements ≡ Some element.now }
+    requires edit { edit.now ≡ edit_of.SetC name.now farads }
     ensures kept { IfOk result (λ new. new ≡ edited kept.now edit.now) }
     ensures cause { Answers result (edit_cause kept.now edit.now) }
 {
     known(kept);
-    check_set(kept, name, edit)?;
-    let elements = changed::set_named(alloc, kept.elements(), name, edit)?;
-    remake(alloc, kept, edit, elements)
+    let Some((node, old)) = changed::capacitor_of(element) else {
+        return Err(EditRefusal::WrongKind(name.copy()?));
+    };
+    let more = i128::from(farads) - i128::from(old);
+    set_at_node(alloc, kept, name, edit, node, &more)
+}
+
+/// Sets a capacitance.
+fn set_farads(
+    alloc: Global,
+    kept: &Kept,
+    name: &Name,
+    farads: i64,
+    edit: &Edit,
+) -> Result<Kept, EditRefusal>
+    requires { edit.now ≡ edit_of.SetC name.now farads }
+    ensures kept { IfOk result (λ new. new ≡ edited kept.now edit.now) }
+    ensures cause { Answers result (edit_cause kept.now edit.now) }
+{
+    let place = find(kept, name)?;
+    set_capacitor(alloc, kept, &kept.elements()[place], name, farads, edit)
 }
 
 /// Whether an element drives this node.
@@ -374,7 +454,7 @@ pub fn edited(alloc: Global, kept: &Kept, edit: &Edit) -> Result<Kept, EditRefus
     rising(edit);
     match edit {
         Edit::SetR { name, .. } => set_alone(alloc, kept, name, edit),
-        Edit::SetC { name, .. } => set_farads(alloc, kept, name, edit),
+        Edit::SetC { name, farads } => set_farads(alloc, kept, name, *farads, edit),
         Edit::SetWave { name, .. } => set_alone(alloc, kept, name, edit),
         Edit::SetModel { name, .. } => set_alone(alloc, kept, name, edit),
         Edit::SetIc { node, volts } => set_initial(alloc, kept, node, *volts, edit),

@@ -1,6 +1,7 @@
 //! Elements with another value.
 
-ghost use Rattle.std.specs.Prelude.{◌≡◌, if◌then◌else◌, unwrap_or, IfOk};
+ghost use Rattle.std.specs.Prelude.{◌≡◌, if◌then◌else◌, option_map, unwrap_or, IfOk};
+ghost use Rattle.deck_cards.specs.AtNode.{capacitor_of};
 ghost use Rattle.deck_cards.specs.Edits.{with_ohms, with_farads, with_wave, with_part, changed, has_name, set_named};
 
 use crate::edit::Edit;
@@ -100,6 +101,26 @@ fn with_part(element: &Element, part: &Name) -> Result<Option<Element>, AllocErr
         Element::Resistor { .. } => Ok(None),
         Element::Capacitor { .. } => Ok(None),
         Element::Source { .. } => Ok(None),
+    }
+}
+
+/// The node that a capacitor is at, and its capacitance; `None` where the element is none.
+pub fn capacitor_of(element: &Element) -> Option<(&Name, i64)>
+    ensures { option_map (λ p. (p.0.now, p.1)) result ≡ capacitor_of element.now }
+{
+    match element {
+        Element::Capacitor {
+            plus,
+            minus,
+            farads,
+            ..
+        } => {
+            let node = if plus.is_ground() { minus } else { plus };
+            Some((node, *farads))
+        }
+        Element::Resistor { .. } => None,
+        Element::Source { .. } => None,
+        Element::Mos { .. } => None,
     }
 }
 

@@ -177,6 +177,27 @@ impl Kept {
         })
     }
 
+    /// The same with other elements of the same names and nodes, and what is known of these.
+    pub fn with_facts(
+        &self,
+        alloc: Global,
+        elements: Vec<Element>,
+        facts: Vec<NodeFacts>,
+    ) -> Result<Kept, AllocError>
+        requires { IsIndex (record self.now { elements = elements.items }) (map name_of self.now.elements)
+            (nodes self.now) facts.items }
+        ensures { IfOk result (λ kept. kept ≡ record self.now { elements = elements.items }) }
+    {
+        Ok(Kept {
+            frame: Arc::try_clone(&self.frame)?,
+            initial: Arc::try_clone(&self.initial)?,
+            elements: Arc::new(alloc, elements)?,
+            names: Arc::try_clone(&self.names)?,
+            nodes: Arc::try_clone(&self.nodes)?,
+            facts: Arc::new(alloc, facts)?,
+        })
+    }
+
     /// The same with other elements, their names and their nodes.
     pub fn with_nodes(
         &self,

@@ -7,6 +7,7 @@ ghost use Rattle.std.specs.Option.{option_or};
 ghost use Rattle.semantics.specs.Deck.{DeckValue, ends_of, with_node};
 ghost use Rattle.semantics.specs.Valid.{differ, is_grounded};
 ghost use Rattle.deck_cards.specs.Answers.{Answers};
+ghost use Rattle.deck_cards.specs.AtNode.{free_farads};
 ghost use Rattle.deck_cards.specs.Causes.{uncapped, no_initial, node_farads, many_terminals, free_cause, size_cause};
 ghost use Rattle.deck_cards.specs.Facts.{ChangesAt, IsTable, farads_of, known};
 
@@ -91,6 +92,42 @@ fn add_farads(names: &IndexSet<Name>, facts: &mut [NodeFacts], name: &Name, fara
 {
     if let Some(place) = names.get_index_of(name) {
         facts[place].farads += *farads;
+    }
+}
+
+/// What is known of the nodes where the sum of the capacitors at one of them is so much more.
+pub fn with_farads(
+    names: &IndexSet<Name>,
+    facts: &Vec<NodeFacts>,
+    node: &Name,
+    more: &i128,
+) -> Result<Vec<NodeFacts>, AllocError>
+    requires differ { differ names.now.keys ≡ true }
+    requires size { length facts.now.items ≡ length names.now.keys }
+    requires room { All (λ f. FitsSigned w128 (f.farads +ℤ more.now)) facts.now.items }
+    ensures { IfOk result (λ new. ChangesAt names.now.keys node.now
+        (λ f. record f { farads = f.farads +ℤ more.now }) facts.now.items new.items) }
+{
+    let mut new = facts.clone()?;
+    add_farads(names, &mut new, node, more);
+    Ok(new)
+}
+
+/// The sum of the capacitors at a free node; `None` for any other name.
+pub fn free_farads(names: &IndexSet<Name>, facts: &[NodeFacts], node: &Name) -> Option<i128>
+    requires { length facts.now ≡ length names.now.keys }
+    ensures { (d : DeckValue) → IsTable d names.now.keys facts.now → result ≡ free_farads d node.now }
+{
+    match names.get_index_of(node) {
+        None => None,
+        Some(place) => {
+            let known = facts[place];
+            if known.source.is_none() {
+                Some(known.farads)
+            } else {
+                None
+            }
+        }
     }
 }
 
