@@ -1,5 +1,5 @@
 -- Another capacitance changes the sum at the capacitor's node and nothing else that is kept of names and nodes, and only the value and that sum can be against it.
-use Rattle.std.proofs.Common.{◌≡◌, ◌∙◌, ℕ, ◌+◌, ◌<◌, ◌^◌, ℤ, pos, ◌+ℤ◌, ◌-ℤ◌, int_le, unsigned_abs, SFits, w64, Bool, true, false, not, ◌&&◌, ◌||◌, cond, if◌then◌else◌, List, [], ◌∷◌, ◌++◌, map, filter, fold, get_or, position, Option, Some, None, is_none, is_some, unwrap_or, option_and_then, refl, sym, ap, subst, arith}
+use Rattle.std.proofs.Common.{◌≡◌, ◌∙◌, ℕ, ◌^◌, ℤ, pos, ◌+ℤ◌, ◌-ℤ◌, int_le, SFits, w64, Bool, true, false, not, ◌&&◌, ◌||◌, cond, if◌then◌else◌, List, [], ◌∷◌, ◌++◌, map, filter, fold, get_or, position, Option, Some, None, is_none, is_some, unwrap_or, option_and_then, refl, sym, ap, subst, arith}
 use Rattle.std.specs.Int.{w128}
 use Rattle.std.specs.List.{list_all, list_any, flat_map}
 use Rattle.std.specs.Option.{option_map, option_or}
@@ -23,7 +23,7 @@ use Rattle.deck_cards.specs.declared.edit.Edit.TheVariants.{SetC}
 use Rattle.deck_cards.specs.Answers.{Refuses}
 use Rattle.deck_cards.specs.AtNode.{IsAtNode, capacitor_of, free_farads, sum_cause, node_cause, known_with}
 use Rattle.deck_cards.specs.Causes.{when, first_that, uncapped, node_farads, whole_with}
-use Rattle.deck_cards.specs.Edits.{changed, edit_cause, edit_limit, edited, named, place_cause, set_cause, set_named, with_farads}
+use Rattle.deck_cards.specs.Edits.{edit_cause, edit_limit, edited, named, place_cause, with_farads}
 use Rattle.deck_cards.specs.Facts.{IsIndex, IsTable, known, source_of, farads_of}
 use Rattle.deck_cards.proofs.Accepted.{fits, found_cause, kind_cause, stays_valid}
 use Rattle.deck_cards.proofs.Alone.{place_swap}
@@ -31,9 +31,9 @@ use Rattle.deck_cards.proofs.Firsts.{none_that, none_map, or_none, refuses_first
 use Rattle.deck_cards.proofs.Known.{no_farads}
 use Rattle.deck_cards.proofs.Meaning.{capacity_small, driver_known}
 use Rattle.deck_cards.proofs.Named.{and_both, from_not, name_turned, named_at, read_named, same_name}
-use Rattle.deck_cards.proofs.Standing.{Stands, elements_to, found, some_same}
+use Rattle.deck_cards.proofs.Standing.{Stands, elements_to, found}
 use Rattle.deck_cards.proofs.Swapped.{map_swap, middle}
-use Rattle.deck_cards.proofs.Touched.{Alike, SameNodes, free_same, left, swapped}
+use Rattle.deck_cards.proofs.Touched.{SameNodes, free_same, left, swapped}
 use Rattle.deck_cards.proofs.Validity.{valid_clear}
 
 -- ---- sums

@@ -1,4 +1,4 @@
-use Rattle.std.proofs.Common.{◌≡◌, ◌∙◌, Some, get_or, ap, subst, sym}
+use Rattle.std.proofs.Common.{◌∙◌, Some, get_or, ap, subst, sym}
 use Rattle.std.proofs.lemmas.Option.{slice_get-get_or}
 use Rattle.deck_cards.specs.Answers.{Refuses}
 use Rattle.deck_cards.specs.Edits.{edit_cause}

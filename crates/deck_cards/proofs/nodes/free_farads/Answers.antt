@@ -1,4 +1,4 @@
-use Rattle.std.proofs.Common.{◌≡◌, ◌∙◌, SFits, Bool, true, false, not, is_some, is_none, Some, get_or, ap, sym, rules}
+use Rattle.std.proofs.Common.{◌≡◌, ◌∙◌, SFits, true, false, not, is_some, is_none, Some, get_or, ap, sym, rules}
 use Rattle.std.specs.Int.{w128}
 use Rattle.std.specs.List.{list_any}
 use Rattle.std.specs.Str.{bytes_eq}

@@ -1,4 +1,4 @@
-use Rattle.std.proofs.Common.{◌≡◌, ◌∙◌, ◌++◌, length, take, map, drop, ap, sym}
+use Rattle.std.proofs.Common.{◌∙◌, ◌++◌, length, take, drop, ap, sym}
 use Rattle.std.specs.List.{each_same}
 use Rattle.std.proofs.Math.Seq.{take-append_seam}
 use Rattle.std.proofs.lemmas.List.{length-map}
