@@ -3,3 +3,6 @@ pub mod Marking
 pub mod Ranges
 pub mod Around
 pub mod Nearness
+pub mod Finding
+pub mod Named
+pub mod ByEdit

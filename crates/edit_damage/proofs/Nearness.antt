@@ -27,13 +27,13 @@ use Rattle.edit_damage.proofs.Ranges.{any_below, any_same, kept_all, kept_has, k
 
 -- ---- ends of changed elements
 
-some_element : (p : Element → Bool) (es : List Element) → list_any p es ≡ true → (e : Element) × (Contains es e × (p e ≡ true))
+pub some_element : (p : Element → Bool) (es : List Element) → list_any p es ≡ true → (e : Element) × (Contains es e × (p e ≡ true))
 some_element p es h =
     let at = any_index p es no_element h in
     let e : Element = get_or es at.0 no_element in
     (e, ((at.0, at.1, get_or_default es at.0 e no_element at.1), at.2))
 
-any_element : (p : Element → Bool) (es : List Element) (e : Element) → Contains es e → p e ≡ true → list_any p es ≡ true
+pub any_element : (p : Element → Bool) (es : List Element) (e : Element) → Contains es e → p e ≡ true → list_any p es ≡ true
 any_element p es e at h = list_any_at p es at.0 e at.1 (ap p at.2 ∙ h)
 
 -- an element of the one deck that the other has not, with the name at an end
@@ -95,10 +95,10 @@ module _ (old new : DeckValue) where
 
   -- ---- initial voltages
 
-  apart_from : (n : List ℕ) → starts_apart old new n ≡ true → initial_of old n ≢ initial_of new n
+  pub apart_from : (n : List ℕ) → starts_apart old new n ≡ true → initial_of old n ≢ initial_of new n
   apart_from n h = λ same. false≢true (sym (not-true (int_eq (initial_of old n) (initial_of new n)) h) ∙ (Decides-int_eq (initial_of old n) (initial_of new n)).1 same)
 
-  from_apart : (n : List ℕ) → (initial_of old n ≢ initial_of new n) → starts_apart old new n ≡ true
+  pub from_apart : (n : List ℕ) → (initial_of old n ≢ initial_of new n) → starts_apart old new n ≡ true
   from_apart n apart = not_from_false (int_eq (initial_of old n) (initial_of new n)) (false_from_ne_true (int_eq (initial_of old n) (initial_of new n)) (λ h. apart ((Decides-int_eq (initial_of old n) (initial_of new n)).0 h)))
 
   -- ---- what moves its neighbours
@@ -130,7 +130,7 @@ module _ (old new : DeckValue) where
     around i = around_moved names i
 
     -- a neighbour that is not ground has a number
-    numbered : (m n : List ℕ) → is_ground m ≡ false → share new m n ≡ true → (j : ℕ) × ((j < length names) × (m ≡ name j))
+    pub numbered : (m n : List ℕ) → is_ground m ≡ false → share new m n ≡ true → (j : ℕ) × ((j < length names) × (m ≡ name j))
     numbered m n real joined =
         let node : list_any (bytes_eq m) (nodes new) ≡ true = node_is new m ∙ and_from (not (is_ground m)) (list_any (is_end m) new.elements) (not_from_false (is_ground m) real) (share_end new m n joined) in
         let at = any_index (bytes_eq m) (nodes new) [] node in

@@ -1,3 +1,4 @@
 pub mod Same
 pub mod Marks
 pub mod Near
+pub mod ByEdit

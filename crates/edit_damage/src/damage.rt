@@ -94,7 +94,7 @@ fn mark_where_apart(marks: &mut Marks, node: u32, old: &Deck, new: &Deck, names:
 }
 
 /// Whether two decks give a name different initial voltages.
-fn starts_apart(old: &Deck, new: &Deck, name: &Name) -> bool
+pub(crate) fn starts_apart(old: &Deck, new: &Deck, name: &Name) -> bool
     ensures { result ≡ starts_apart old.now new.now name.now }
 {
     start(old, name) != start(new, name)

@@ -173,7 +173,7 @@ impl Marks {
 }
 
 /// Whether a number is that of a free node.
-fn is_free(circuit: &Circuit, node: u32) -> bool
+pub(crate) fn is_free(circuit: &Circuit, node: u32) -> bool
     ensures { result ≡ is_free_kind (kind_at circuit.now node) }
 {
     match circuit.kind(node) {

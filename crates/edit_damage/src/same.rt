@@ -152,7 +152,7 @@ pub(crate) fn has_element(deck: &Deck, element: &Element) -> bool
 }
 
 /// That the names of the elements of a deck differ.
-fn have_names(deck: &Deck)
+pub(crate) fn have_names(deck: &Deck)
     ensures { differ (map name_of deck.now.elements) ≡ true }
 {
     deck.stop();

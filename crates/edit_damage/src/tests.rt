@@ -1,6 +1,6 @@
-use crate::damaged;
+use crate::{damaged, damaged_by};
 use circuit_model::{Circuit, NodeNames};
-use deck_cards::{Deck, DeckParts, Element, Name, Title};
+use deck_cards::{Deck, DeckParts, Edit, Element, Name, Title, Wave};
 use std::alloc::{AllocError, Global};
 use std::test::Fail;
 
@@ -86,5 +86,106 @@ fn a_resistor_its_ends_and_a_capacitor_its_node(rt: HostRuntime) -> Result<(), F
         Some(&[0, 1][..])
     );
     assert_eq!(rt; numbers(rt.alloc(), old, old)?.as_deref(), Some(&[][..]));
+    Ok(())
+}
+
+/// The numbers of the nodes near an edit of a deck, as the edit and as the two decks tell them.
+fn both_numbers(
+    alloc: Global,
+    old: &Deck,
+    edit: &Edit,
+) -> Result<Option<(Vec<u32>, Vec<u32>)>, AllocError> {
+    let Ok(new) = old.apply(alloc, edit) else {
+        return Ok(None);
+    };
+    let mut names = NodeNames::new();
+    if old.node_count() > 10 {
+        return Ok(None);
+    }
+    let before = Circuit::of(alloc, old, &mut names)?;
+    if names.len() > 10 || new.node_count() > 10 {
+        return Ok(None);
+    }
+    let circuit = Circuit::of(alloc, &new, &mut names)?;
+    drop(before);
+    let by_edit = damaged_by(alloc, edit, old, &new, &circuit, &names)?;
+    let by_decks = damaged(alloc, old, &new, &circuit, &names)?;
+    Ok(Some((by_edit, by_decks)))
+}
+
+/// Whether these are the numbers of the nodes near an edit, by the edit and by the two decks.
+fn are_near(alloc: Global, old: &Deck, edit: &Edit, numbers: &[u32]) -> Result<bool, AllocError> {
+    match both_numbers(alloc, old, edit)? {
+        None => Ok(false),
+        Some((by_edit, by_decks)) => {
+            Ok(by_edit.as_slice() == numbers && by_decks.as_slice() == numbers)
+        }
+    }
+}
+
+/// A source that drives the node b.
+fn source(alloc: Global) -> Result<Element, AllocError> {
+    Ok(Element::Source {
+        name: name(alloc, "v1")?,
+        plus: name(alloc, "b")?,
+        minus: name(alloc, "0")?,
+        wave: Wave::dc(alloc, 7)?,
+    })
+}
+
+/// The deck with the edit; where that is refused, none.
+fn edited(alloc: Global, deck: &Deck, edit: &Edit) -> Option<Deck> {
+    deck.apply(alloc, edit).ok()
+}
+
+#[test]
+fn an_edit_of_a_value_and_of_a_voltage(rt: HostRuntime) -> Result<(), Fail> {
+    let alloc = rt.alloc();
+    let Some(old) = deck(alloc, (1_000, 1_000, 0))? else {
+        return Ok(());
+    };
+    let resistor_set = Edit::SetR {
+        name: name(alloc, "r1")?,
+        ohms: 2_000,
+    };
+    assert!(rt; are_near(alloc, &old, &resistor_set, &[0, 1])?);
+    let same = Edit::SetR {
+        name: name(alloc, "r1")?,
+        ohms: 1_000,
+    };
+    assert!(rt; are_near(alloc, &old, &same, &[])?);
+    let capacitor_set = Edit::SetC {
+        name: name(alloc, "c1")?,
+        farads: 2_000,
+    };
+    assert!(rt; are_near(alloc, &old, &capacitor_set, &[0])?);
+    let begun = Edit::SetIc {
+        node: name(alloc, "b")?,
+        volts: 5,
+    };
+    assert!(rt; are_near(alloc, &old, &begun, &[0, 1])?);
+    let removed = Edit::Remove(name(alloc, "r1")?);
+    assert!(rt; are_near(alloc, &old, &removed, &[0, 1])?);
+    Ok(())
+}
+
+#[test]
+fn a_source_that_comes_turns_and_goes(rt: HostRuntime) -> Result<(), Fail> {
+    let alloc = rt.alloc();
+    let Some(old) = deck(alloc, (1_000, 1_000, 0))? else {
+        return Ok(());
+    };
+    let added = Edit::Add(source(alloc)?);
+    assert!(rt; are_near(alloc, &old, &added, &[0])?);
+    let Some(driven) = edited(alloc, &old, &added) else {
+        return Ok(());
+    };
+    let turned = Edit::SetWave {
+        name: name(alloc, "v1")?,
+        wave: Wave::dc(alloc, 9)?,
+    };
+    assert!(rt; are_near(alloc, &driven, &turned, &[0])?);
+    let removed = Edit::Remove(name(alloc, "v1")?);
+    assert!(rt; are_near(alloc, &driven, &removed, &[0, 1])?);
     Ok(())
 }
