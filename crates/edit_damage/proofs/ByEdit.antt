@@ -4,6 +4,7 @@ use Rattle.std.specs.List.{list_any}
 use Rattle.std.specs.List.Sorted.{IsStrictlyIncreasing}
 use Rattle.std.specs.Str.{bytes_eq}
 use Rattle.std.proofs.lemmas.Bool.{false≢true, not-true, not_from_false, and_parts, and_from, or_cases, or_left, or_right}
+use Rattle.std.proofs.lemmas.List.{get_or_default}
 use Rattle.std.proofs.lemmas.List.Folds.{list_any_at}
 use Rattle.semantics.specs.declared.element.Element.{Element}
 use Rattle.semantics.specs.Ground.{is_ground}
@@ -23,7 +24,7 @@ use Rattle.edit_damage.specs.Marks.{is_free_kind, starts_apart}
 use Rattle.edit_damage.specs.Near.{AreNear}
 use Rattle.edit_damage.specs.ByEdit.{is_among, is_around_node, is_beside, is_beside_source, is_edited, is_near_element, is_near_lost, is_near_start, AreFound}
 use Rattle.edit_damage.proofs.Alike.{any_index, has_none, none_has}
-use Rattle.edit_damage.proofs.Finding.{among_has, found_three, free_below, has_among}
+use Rattle.edit_damage.proofs.Finding.{among_has, found_three, has_among}
 use Rattle.edit_damage.proofs.Named.{changed_named}
 use Rattle.edit_damage.proofs.Nearness.{any_element, apart_from, free_kind, from_apart, some_element}
 

@@ -1,9 +1,14 @@
 -- Numbers that are found one after another.
-use Rattle.std.proofs.Common.{◌≡◌, ◌∙◌, ℕ, ◌<◌, ◌≤◌, Bool, true, false, ◌&&◌, ◌||◌, nat_eq, List, [], ◌∷◌, ◌++◌, length, get_or, slice_get, Option, Some, None, option_map_or, refl, sym, ap, ⊎_elim, ◌⊎◌, Contains, arith}
-use Rattle.std.specs.List.{list_any, take}
+use Rattle.std.proofs.Common.{◌≡◌, ◌∙◌, ℕ, ◌<◌, Bool, true, false, ◌&&◌, ◌||◌, nat_eq, List, [], ◌∷◌, ◌++◌, length, get_or, slice_get, Option, Some, None, refl, sym, ap, Contains}
+use Rattle.std.specs.List.{list_any, dedup}
+use Rattle.std.specs.List.Sorted.{IsPermutation}
+use Rattle.std.specs.Option.{option_map_or}
 use Rattle.std.proofs.lemmas.Bool.{false≢true, eqb-true, eq-eqb}
 use Rattle.std.proofs.lemmas.List.Folds.{list_any-append, list_any_at}
+use Rattle.std.proofs.lemmas.List.Kept.{Contains-dedup_nat, Contains-from_dedup}
+use Rattle.std.proofs.lemmas.List.Sorted.{Contains-permutation, IsPermutation-sym}
 use Rattle.std.proofs.lemmas.Option.{slice_get_within}
+use Rattle.semantics.proofs.Free.{same_test}
 use Rattle.circuit_model.specs.Numbers.{CircuitValue, kind_at, kind_of}
 use Rattle.circuit_model.specs.declared.node_kind.NodeKind.TheVariants.{Absent}
 use Rattle.edit_damage.specs.ByEdit.{is_among, AreFound}
@@ -27,6 +32,12 @@ among_has xs i h = let at = any_index (nat_eq i) xs i h in (at.0, at.1, sym (eqb
 
 pub has_among : (xs : List ℕ) (i : ℕ) → Contains xs i → is_among xs i ≡ true
 has_among xs i at = list_any_at (nat_eq i) xs at.0 i at.1 (ap (nat_eq i) at.2 ∙ eq-eqb i i refl)
+
+-- sorted and each once they are the same
+pub sorted_same : (old sorted new : List ℕ) → IsPermutation old sorted → new ≡ dedup nat_eq sorted → (i : ℕ) → is_among new i ≡ is_among old i
+sorted_same old sorted new moved is i = ap (λ xs. is_among xs i) is ∙ same_test (is_among (dedup nat_eq sorted) i) (is_among old i)
+    (λ h. has_among old i (Contains-permutation _ _ i (IsPermutation-sym _ _ moved) (Contains-from_dedup nat_eq sorted i (among_has (dedup nat_eq sorted) i h))))
+    (λ h. has_among (dedup nat_eq sorted) i (Contains-dedup_nat sorted i (Contains-permutation _ _ i moved (among_has old i h))))
 
 -- ---- what is found
 

@@ -70,7 +70,6 @@ changed_named d e x accepted changed = by ((changes d e x accepted).0 changed)
 
 -- ---- the element of a name
 
--- where names differ, what is said of the element of a name is said of the one at its place
 or_false : (b : Bool) → (b || false) ≡ b
 or_false true = refl
 or_false false = refl
@@ -84,6 +83,7 @@ none_of_name n q (y ∷ ys) none = by (has_name n y) none (none_of_name n q ys)
     by true bad rest = absurd (false≢true (sym bad))
     by false off rest = rest off
 
+-- where names differ, what is said of the element of a name is said of the one at its place
 pub one_of_name : (n : List ℕ) (q : Element → Bool) (es : List Element) (i : ℕ) (x : Element) → differ (map name_of es) ≡ true → slice_get es i ≡ Some x → name_of x ≡ n
     → list_any (λ e. has_name n e && q e) es ≡ q x
 one_of_name n q [] i x apart at is = absurd (none-some x at)
@@ -99,3 +99,12 @@ one_of_name n q (y ∷ ys) (suc i) x apart at is =
     let other : has_name (name_of y) x ≡ false = not_at (has_name (name_of y)) ys i x others at in
     let here : has_name n y ≡ false = false_from_ne_true (has_name n y) (λ h. false≢true (sym other ∙ bytes_eq-same (name_of y) (name_of x) (sym (same-bytes_eq n (name_of y) h) ∙ sym is))) in
     ap (λ b. (b && q y) || list_any (λ e. has_name n e && q e) ys) here ∙ one_of_name n q ys i x parts.1 at is
+
+-- an edit of no element
+pub none_edited : (p q : Element → Bool) (es : List Element) → ((e : Element) → p e ≡ false) → list_any (λ e. p e && q e) es ≡ false
+none_edited p q [] none = refl
+none_edited p q (y ∷ ys) none = ap (λ b. (b && q y) || list_any (λ e. p e && q e) ys) (none y) ∙ none_edited p q ys none
+
+-- the name at a place is that of the element there
+pub name_there : (es : List Element) (i : ℕ) (x : Element) (n : List ℕ) → slice_get es i ≡ Some x → option_map name_of (slice_get es i) ≡ Some n → name_of x ≡ n
+name_there es i x n at found = ap (λ o. unwrap_or o (name_of x)) (sym (ap (option_map name_of) at) ∙ found)

@@ -176,7 +176,7 @@ module _ (old new : DeckValue) where
 
 -- ---- the answer
 
-free_kind : (k : NodeKind) → is_free_kind k ≡ true → k ≡ Free
+pub free_kind : (k : NodeKind) → is_free_kind k ≡ true → k ≡ Free
 free_kind Absent h = absurd (false≢true h)
 free_kind Driven h = absurd (false≢true h)
 free_kind Free h = refl

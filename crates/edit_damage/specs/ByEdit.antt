@@ -54,7 +54,11 @@ is_edited (SetIc node volts) e = false
 is_edited (Add element) e = has_name (name_of element) e
 is_edited (Remove name) e = has_name name e
 
--- the one deck has the edit's element in a form that the other has not, and by the devices of deck d the name is near it
+-- the one deck has the element of this name in a form that the other has not, and by the devices of deck d the name n is near it
+abbrev pub is_near_named : DeckValue → DeckValue → DeckValue → Name → Name → Bool
+is_near_named d one other name n = list_any (λ e. has_name name e && (not (has_element other e) && is_near_element d e n)) one.elements
+
+-- the same of the element of an edit
 abbrev pub is_near_lost : DeckValue → DeckValue → DeckValue → Edit → Name → Bool
 is_near_lost d one other edit n = list_any (λ e. is_edited edit e && (not (has_element other e) && is_near_element d e n)) one.elements
 

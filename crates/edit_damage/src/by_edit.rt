@@ -3,7 +3,7 @@ ghost use Rattle.std.specs.Option.{option_map_or};
 ghost use Rattle.semantics.specs.declared.element.Element.{Element};
 ghost use Rattle.circuit_model.specs.Numbers.{name_at};
 ghost use Rattle.deck_cards.specs.Edits.{edit_cause, edited, has_name};
-ghost use Rattle.edit_damage.specs.ByEdit.{is_edited, is_near_element, is_near_lost, is_near_start, AreFound};
+ghost use Rattle.edit_damage.specs.ByEdit.{is_edited, is_near_element, is_near_lost, is_near_named, is_near_start, AreFound};
 ghost use Rattle.edit_damage.specs.Near.{AreNear};
 ghost use Rattle.edit_damage.specs.Same.{has_element};
 
@@ -70,10 +70,25 @@ fn add_lost(
     requires { circuit.now.names ≡ names.now }
     ensures { OnOk result (AreFound circuit.now (λ i. is_near_lost circuit.now.deck one.now other.now edit.now (name_at circuit.now i)) found.old found.new) }
 {
+    match element_name(edit) {
+        None => Ok(()),
+        Some(name) => add_named(found, circuit, names, name, one, other),
+    }
+}
+
+/// Adds the free nodes near the element of a name, where the one deck has it in a form that the other has not.
+fn add_named(
+    found: &mut Found,
+    circuit: &Circuit,
+    names: &NodeNames,
+    name: &Name,
+    one: &Deck,
+    other: &Deck,
+) -> Result<(), AllocError>
+    requires { circuit.now.names ≡ names.now }
+    ensures { OnOk result (AreFound circuit.now (λ i. is_near_named circuit.now.deck one.now other.now name.now (name_at circuit.now i)) found.old found.new) }
+{
     have_names(one);
-    let Some(name) = element_name(edit) else {
-        return Ok(());
-    };
     match one.place(name) {
         None => Ok(()),
         Some(place) => add_where_lost(found, circuit, names, one.element(place), other),
