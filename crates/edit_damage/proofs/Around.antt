@@ -1,6 +1,6 @@
 -- The ends of a device by number, and the nodes that share a device with one.
-use Rattle.std.proofs.Common.{◌≡◌, ◌∙◌, ℕ, ◌<◌, Bool, false, true, not, ◌&&◌, List, [], length, get_or, Some, None, refl, sym, ap}
-use Rattle.std.specs.List.{list_any, position, range_with_len, filter}
+use Rattle.std.proofs.Common.{◌≡◌, ◌∙◌, ℕ, ◌<◌, false, not, ◌&&◌, List, [], length, get_or, Some, None, sym, ap}
+use Rattle.std.specs.List.{list_any, range_with_len, filter}
 use Rattle.std.specs.Str.{bytes_eq}
 use Rattle.std.proofs.lemmas.Bool.{false≢true, and_parts, false_from_ne_true, not-true}
 use Rattle.std.proofs.lemmas.List.Folds.{list_any_at}

@@ -1,5 +1,5 @@
 -- What is near the element of an accepted edit, or near the node that it gives a voltage, is near the change that it makes, and nothing else is.
-use Rattle.std.proofs.Common.{◌≡◌, ◌≢◌, ◌∙◌, ℕ, ◌<◌, Bool, true, false, not, ◌&&◌, ◌||◌, List, [], length, get_or, refl, sym, ap, subst, ⊎_elim, inl, inr, ◌⊎◌, Contains, arith}
+use Rattle.std.proofs.Common.{◌≡◌, ◌≢◌, ◌∙◌, ℕ, Bool, true, false, not, ◌&&◌, ◌||◌, List, [], get_or, refl, sym, ap, subst, ⊎_elim, inl, inr, ◌⊎◌}
 use Rattle.std.specs.List.{list_any}
 use Rattle.std.specs.List.Sorted.{IsStrictlyIncreasing}
 use Rattle.std.specs.Str.{bytes_eq}
@@ -22,7 +22,7 @@ use Rattle.edit_laws.proofs.Changed.{initial_after}
 use Rattle.edit_damage.specs.Same.{has_element}
 use Rattle.edit_damage.specs.Marks.{is_free_kind, starts_apart}
 use Rattle.edit_damage.specs.Near.{AreNear}
-use Rattle.edit_damage.specs.ByEdit.{is_among, is_around_node, is_beside, is_beside_source, is_edited, is_near_element, is_near_lost, is_near_start, AreFound}
+use Rattle.edit_damage.specs.ByEdit.{is_among, is_around_node, is_beside, is_beside_source, is_edited, is_near_element, is_near_lost, is_near_start, AreNumbersFound}
 use Rattle.edit_damage.proofs.Alike.{any_index, has_none, none_has}
 use Rattle.edit_damage.proofs.Finding.{among_has, found_three, has_among}
 use Rattle.edit_damage.proofs.Named.{changed_named}
@@ -165,16 +165,16 @@ are_near old e c numbers accepted is rising has = record {
 -- the numbers that are found in three turns
 pub record EditTurns (old new : DeckValue) (e : Edit) (c : CircuitValue) (found0 found1 found2 found3 : List ℕ) : Type 0 where
   pub none : found0 ≡ []
-  pub gone : AreFound c (λ i. is_near_lost c.deck old new e (get_or c.names i [])) found0 found1
-  pub come : AreFound c (λ i. is_near_lost c.deck new old e (get_or c.names i [])) found1 found2
-  pub start : AreFound c (λ i. is_near_start old new e (get_or c.names i [])) found2 found3
+  pub gone : AreNumbersFound c (λ i. is_near_lost c.deck old new e (get_or c.names i [])) found0 found1
+  pub come : AreNumbersFound c (λ i. is_near_lost c.deck new old e (get_or c.names i [])) found1 found2
+  pub start : AreNumbersFound c (λ i. is_near_start old new e (get_or c.names i [])) found2 found3
 
 -- the numbers that they come to, sorted, are those of the nodes near the change
 pub found_near : (old new : DeckValue) (e : Edit) (c : CircuitValue) (found0 found1 found2 found3 numbers : List ℕ) → IsAccepted old e → new ≡ edited old e → c.deck ≡ new
     → EditTurns old new e c found0 found1 found2 found3 → IsStrictlyIncreasing numbers → ((i : ℕ) → is_among numbers i ≡ is_among found3 i) → AreNear old new c numbers
 found_near old new e c found0 found1 found2 found3 numbers accepted is deck turns rising same =
     subst (λ d. AreNear old d c numbers) deck (are_near old e c numbers accepted (deck ∙ is) rising (λ i.
-    let all : AreFound c (λ k. is_near_edit old c.deck e (get_or c.names k [])) found0 found3 =
-    subst (λ d. AreFound c (λ k. is_near_lost c.deck old d e (get_or c.names k []) || (is_near_lost c.deck d old e (get_or c.names k []) || is_near_start old d e (get_or c.names k []))) found0 found3) (sym deck)
+    let all : AreNumbersFound c (λ k. is_near_edit old c.deck e (get_or c.names k [])) found0 found3 =
+    subst (λ d. AreNumbersFound c (λ k. is_near_lost c.deck old d e (get_or c.names k []) || (is_near_lost c.deck d old e (get_or c.names k []) || is_near_start old d e (get_or c.names k []))) found0 found3) (sym deck)
     (found_three c _ _ _ _ found0 found1 found2 found3 turns.gone turns.come turns.start (λ k below. refl)) in
     same i ∙ all i ∙ ap (λ xs. is_among xs i || (is_free_kind (kind_at c i) && is_near_edit old c.deck e (get_or c.names i []))) turns.none))

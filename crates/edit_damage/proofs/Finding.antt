@@ -1,6 +1,6 @@
 -- Numbers that are found one after another.
 use Rattle.std.proofs.Common.{◌≡◌, ◌∙◌, ℕ, ◌<◌, Bool, true, false, ◌&&◌, ◌||◌, nat_eq, List, [], ◌∷◌, ◌++◌, length, get_or, slice_get, Option, Some, None, refl, sym, ap, Contains}
-use Rattle.std.specs.List.{list_any, dedup}
+use Rattle.std.specs.List.{dedup}
 use Rattle.std.specs.List.Sorted.{IsPermutation}
 use Rattle.std.specs.Option.{option_map_or}
 use Rattle.std.proofs.lemmas.Bool.{false≢true, eqb-true, eq-eqb}
@@ -11,7 +11,7 @@ use Rattle.std.proofs.lemmas.Option.{slice_get_within}
 use Rattle.semantics.proofs.Free.{same_test}
 use Rattle.circuit_model.specs.Numbers.{CircuitValue, kind_at, kind_of}
 use Rattle.circuit_model.specs.declared.node_kind.NodeKind.TheVariants.{Absent}
-use Rattle.edit_damage.specs.ByEdit.{is_among, AreFound}
+use Rattle.edit_damage.specs.ByEdit.{is_among, AreNumbersFound}
 use Rattle.edit_damage.specs.Marks.{is_free_kind}
 use Rattle.edit_damage.proofs.Alike.{any_index}
 
@@ -53,7 +53,7 @@ module _ (c : CircuitValue) where
       by true is = same (free_below c i is)
       by false is = refl
 
-  pub found_as : (p q : ℕ → Bool) (a b : List ℕ) → AreFound c p a b → ((i : ℕ) → i < length c.names → p i ≡ q i) → AreFound c q a b
+  pub found_as : (p q : ℕ → Bool) (a b : List ℕ) → AreNumbersFound c p a b → ((i : ℕ) → i < length c.names → p i ≡ q i) → AreNumbersFound c q a b
   found_as p q a b found same i = found i ∙ ap (λ x. is_among a i || x) (same_free p q i (same i))
 
   and_false : (b : Bool) → (b && false) ≡ false
@@ -65,7 +65,7 @@ module _ (c : CircuitValue) where
   or_false false = refl
 
   -- where nothing passes, nothing more is found
-  pub found_none : (p : ℕ → Bool) (a : List ℕ) → ((i : ℕ) → i < length c.names → p i ≡ false) → AreFound c p a a
+  pub found_none : (p : ℕ → Bool) (a : List ℕ) → ((i : ℕ) → i < length c.names → p i ≡ false) → AreNumbersFound c p a a
   found_none p a none i = or_false (is_among a i) ∙ ap (λ x. is_among a i || x) (sym (same_free p (λ k. false) i (none i) ∙ and_false (free i)))
 
   both_found : (x k p q : Bool) → ((x || (k && p)) || (k && q)) ≡ (x || (k && (p || q)))
@@ -73,7 +73,7 @@ module _ (c : CircuitValue) where
   both_found false true p q = refl
   both_found false false p q = refl
 
-  pub found_both : (p q r : ℕ → Bool) (a b e : List ℕ) → AreFound c p a b → AreFound c q b e → ((i : ℕ) → i < length c.names → (p i || q i) ≡ r i) → AreFound c r a e
+  pub found_both : (p q r : ℕ → Bool) (a b e : List ℕ) → AreNumbersFound c p a b → AreNumbersFound c q b e → ((i : ℕ) → i < length c.names → (p i || q i) ≡ r i) → AreNumbersFound c r a e
   found_both p q r a b e first second same =
       found_as (λ i. p i || q i) r a e
       (λ i. second i ∙ ap (λ x. x || (free i && q i)) (first i) ∙ both_found (is_among a i) (free i) (p i) (q i))
@@ -83,14 +83,14 @@ module _ (c : CircuitValue) where
   three true q s = refl
   three false q s = refl
 
-  pub found_three : (p q s r : ℕ → Bool) (a b e f : List ℕ) → AreFound c p a b → AreFound c q b e → AreFound c s e f
-      → ((i : ℕ) → i < length c.names → (p i || (q i || s i)) ≡ r i) → AreFound c r a f
+  pub found_three : (p q s r : ℕ → Bool) (a b e f : List ℕ) → AreNumbersFound c p a b → AreNumbersFound c q b e → AreNumbersFound c s e f
+      → ((i : ℕ) → i < length c.names → (p i || (q i || s i)) ≡ r i) → AreNumbersFound c r a f
   found_three p q s r a b e f one two last same =
       found_both (λ i. p i || q i) s r a e f (found_both p q (λ i. p i || q i) a b e one two (λ i below. refl)) last
       (λ i below. three (p i) (q i) (s i) ∙ same i below)
 
   -- the number of a free node is put last
-  pub found_one : (a : List ℕ) (node : ℕ) → free node ≡ true → AreFound c (λ i. nat_eq i node) a (a ++ node ∷ [])
+  pub found_one : (a : List ℕ) (node : ℕ) → free node ≡ true → AreNumbersFound c (λ i. nat_eq i node) a (a ++ node ∷ [])
   found_one a node is i = list_any-append (nat_eq i) a (node ∷ []) ∙ ap (λ x. is_among a i || x) (by (nat_eq i node) refl)
     where
       by : (b : Bool) → nat_eq i node ≡ b → (b || false) ≡ (free i && b)
@@ -98,7 +98,7 @@ module _ (c : CircuitValue) where
       by false other = sym (and_false (free i))
 
   -- that of another node is not
-  pub found_other : (a : List ℕ) (node : ℕ) → free node ≡ false → AreFound c (λ i. nat_eq i node) a a
+  pub found_other : (a : List ℕ) (node : ℕ) → free node ≡ false → AreNumbersFound c (λ i. nat_eq i node) a a
   found_other a node is i = or_false (is_among a i) ∙ ap (λ x. is_among a i || x) (by (nat_eq i node) refl)
     where
       by : (b : Bool) → nat_eq i node ≡ b → false ≡ (free i && b)

@@ -7,7 +7,7 @@ use Rattle.semantics.specs.Ground.{is_ground}
 use Rattle.semantics.specs.Deck.{Name, DeckValue, ends_of, name_of}
 use Rattle.semantics.specs.Edit.{is_voltage_source}
 use Rattle.semantics.specs.Neighbours.{is_end, share}
-use Rattle.circuit_model.specs.Numbers.{CircuitValue, kind_at}
+use Rattle.circuit_model.specs.Numbers.{CircuitValue, kind_at, name_at}
 use Rattle.deck_cards.specs.declared.edit.Edit.{Edit}
 use Rattle.deck_cards.specs.declared.edit.Edit.TheVariants.{SetR, SetC, SetWave, SetModel, SetIc, Add, Remove}
 use Rattle.deck_cards.specs.Edits.{has_name}
@@ -21,8 +21,13 @@ abbrev pub is_among : List ℕ → ℕ → Bool
 is_among numbers i = list_any (nat_eq i) numbers
 
 -- each number of a free node that passes is found too, and of the others those that were
-abbrev pub AreFound : CircuitValue → (ℕ → Bool) → List ℕ → List ℕ → Type 0
-AreFound c passes old new = (i : ℕ) → is_among new i ≡ (is_among old i || (is_free_kind (kind_at c i) && passes i))
+abbrev pub AreNumbersFound : CircuitValue → (ℕ → Bool) → List ℕ → List ℕ → Type 0
+AreNumbersFound c passes old new =
+    (i : ℕ) → is_among new i ≡ (is_among old i || (is_free_kind (kind_at c i) && passes i))
+
+-- the same by the names of the nodes
+abbrev pub AreFound : CircuitValue → (Name → Bool) → List ℕ → List ℕ → Type 0
+AreFound c passes old new = AreNumbersFound c (λ i. passes (name_at c i)) old new
 
 -- ---- what is near
 
@@ -54,13 +59,16 @@ is_edited (SetIc node volts) e = false
 is_edited (Add element) e = has_name (name_of element) e
 is_edited (Remove name) e = has_name name e
 
--- the one deck has the element of this name in a form that the other has not, and by the devices of deck d the name n is near it
+-- the one deck has the element of a name in a form that the other has not, and by the devices of deck d another name is
+-- near it
 abbrev pub is_near_named : DeckValue → DeckValue → DeckValue → Name → Name → Bool
-is_near_named d one other name n = list_any (λ e. has_name name e && (not (has_element other e) && is_near_element d e n)) one.elements
+is_near_named d one other name n =
+    list_any (λ e. has_name name e && (not (has_element other e) && is_near_element d e n)) one.elements
 
 -- the same of the element of an edit
 abbrev pub is_near_lost : DeckValue → DeckValue → DeckValue → Edit → Name → Bool
-is_near_lost d one other edit n = list_any (λ e. is_edited edit e && (not (has_element other e) && is_near_element d e n)) one.elements
+is_near_lost d one other edit n =
+    list_any (λ e. is_edited edit e && (not (has_element other e) && is_near_element d e n)) one.elements
 
 -- the edit gives a node another voltage, and the name is around it
 abbrev pub is_near_start : DeckValue → DeckValue → Edit → Name → Bool

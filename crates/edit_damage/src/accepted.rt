@@ -7,7 +7,8 @@ ghost use Rattle.edit_laws.specs.Accepted.{IsAccepted};
 use deck_cards::{Deck, Edit};
 use semantics::{Element, Wave};
 
-/// That a deck accepts an edit that it has nothing against: the deck is valid, and the voltages of the edit rise in time.
+/// That a deck accepts an edit that it has nothing against: the deck is valid, and a source that the edit brings has
+/// rising times.
 pub(crate) fn know_accepted(deck: &Deck, edit: &Edit)
     ensures { edit_cause deck.now edit.now ≡ None → IsAccepted deck.now edit.now }
 {
@@ -15,7 +16,7 @@ pub(crate) fn know_accepted(deck: &Deck, edit: &Edit)
     know_rising(edit);
 }
 
-/// That the points of a source that an edit brings rise in time.
+/// That a source that an edit brings has rising times.
 fn know_rising(edit: &Edit)
     ensures { edit_rises edit.now ≡ true }
 {
@@ -30,7 +31,7 @@ fn know_rising(edit: &Edit)
     }
 }
 
-/// That the points of an element rise in time, where it is a source.
+/// That an element has rising times, where it is a source.
 fn know_element(element: &Element)
     ensures { element_rises element.now ≡ true }
 {
@@ -42,7 +43,7 @@ fn know_element(element: &Element)
     }
 }
 
-/// That the voltage of a source has points, which rise in time.
+/// That the voltage of a source has a point, and rising times.
 fn know_points(wave: &Wave)
     ensures { has_rising wave.now ≡ true }
 {

@@ -1,9 +1,9 @@
 ghost use Rattle.std.specs.Prelude.{◌≡◌, ◌&&◌, false, not, IfOk, None, OnOk};
 ghost use Rattle.std.specs.Option.{option_map_or};
 ghost use Rattle.semantics.specs.declared.element.Element.{Element};
-ghost use Rattle.circuit_model.specs.Numbers.{name_at};
 ghost use Rattle.deck_cards.specs.Edits.{edit_cause, edited, has_name};
-ghost use Rattle.edit_damage.specs.ByEdit.{is_edited, is_near_element, is_near_lost, is_near_named, is_near_start, AreFound};
+ghost use Rattle.edit_damage.specs.ByEdit.{is_edited, AreFound};
+ghost use Rattle.edit_damage.specs.ByEdit.{is_near_element, is_near_lost, is_near_named, is_near_start};
 ghost use Rattle.edit_damage.specs.Near.{AreNear};
 ghost use Rattle.edit_damage.specs.Same.{has_element};
 
@@ -17,11 +17,12 @@ use semantics::{Element, Name};
 use std::alloc::{AllocError, Global};
 
 /// The numbers of the free nodes of the new deck that an edit can put at fault, by rising numbers: those that `damaged`
-/// finds between the old deck and the new one, where the old one accepted the edit and the new one came of it. The
+/// finds between the deck before the edit and the deck after it. The old deck has nothing against the edit, and the
 /// circuit is that of the new deck under these names.
 ///
-/// It looks at the element of the edit, or at the node that it gives a voltage, and at the devices there, and never at
-/// all elements or all names. It fails only for want of memory.
+/// It looks up the element of the edit in both decks, or the node that the edit gives a voltage, and goes through the
+/// devices at that node or, for a source, at the node that it drives. It never goes through all elements or all names.
+/// It fails only for want of memory.
 pub fn damaged_by(
     alloc: Global,
     edit: &Edit,
@@ -68,7 +69,8 @@ fn add_lost(
     other: &Deck,
 ) -> Result<(), AllocError>
     requires { circuit.now.names ≡ names.now }
-    ensures { OnOk result (AreFound circuit.now (λ i. is_near_lost circuit.now.deck one.now other.now edit.now (name_at circuit.now i)) found.old found.new) }
+    ensures { OnOk result
+        (AreFound circuit.now (is_near_lost circuit.now.deck one.now other.now edit.now) found.old found.new) }
 {
     match element_name(edit) {
         None => Ok(()),
@@ -86,7 +88,8 @@ fn add_named(
     other: &Deck,
 ) -> Result<(), AllocError>
     requires { circuit.now.names ≡ names.now }
-    ensures { OnOk result (AreFound circuit.now (λ i. is_near_named circuit.now.deck one.now other.now name.now (name_at circuit.now i)) found.old found.new) }
+    ensures { OnOk result
+        (AreFound circuit.now (is_near_named circuit.now.deck one.now other.now name.now) found.old found.new) }
 {
     have_names(one);
     match one.place(name) {
@@ -104,7 +107,10 @@ fn add_where_lost(
     other: &Deck,
 ) -> Result<(), AllocError>
     requires { circuit.now.names ≡ names.now }
-    ensures { OnOk result (AreFound circuit.now (λ i. not (has_element other.now element.now) && is_near_element circuit.now.deck element.now (name_at circuit.now i)) found.old found.new) }
+    ensures { OnOk result
+        (AreFound circuit.now
+        (λ n. not (has_element other.now element.now) && is_near_element circuit.now.deck element.now n)
+        found.old found.new) }
 {
     if !has_element(other, element) {
         found.add_near(circuit, names, element)?;
@@ -123,7 +129,8 @@ fn add_start(
 ) -> Result<(), AllocError>
     requires deck { circuit.now.deck ≡ new.now }
     requires names { circuit.now.names ≡ names.now }
-    ensures { OnOk result (AreFound circuit.now (λ i. is_near_start old.now new.now edit.now (name_at circuit.now i)) found.old found.new) }
+    ensures { OnOk result
+        (AreFound circuit.now (is_near_start old.now new.now edit.now) found.old found.new) }
 {
     if let Edit::SetIc { node, .. } = edit {
         if starts_apart(old, new, node) {

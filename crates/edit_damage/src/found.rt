@@ -4,7 +4,8 @@ ghost use Rattle.std.specs.Str.{bytes_eq};
 ghost use Rattle.semantics.specs.Neighbours.{is_end, share};
 ghost use Rattle.circuit_model.specs.Numbers.{device_of, devices, name_at};
 ghost use Rattle.circuit_model.specs.Wiring.{leads_to};
-ghost use Rattle.edit_damage.specs.ByEdit.{is_among, is_around_node, is_beside, is_beside_source, is_near_element, AreFound};
+ghost use Rattle.edit_damage.specs.ByEdit.{is_among, AreFound, AreNumbersFound};
+ghost use Rattle.edit_damage.specs.ByEdit.{is_around_node, is_beside, is_beside_source, is_near_element};
 
 use crate::marks::is_free;
 use circuit_model::{Circuit, NodeNames};
@@ -49,7 +50,7 @@ impl Found {
 
     /// Adds the node to which an end leads, where it is free.
     fn add(&mut self, circuit: &Circuit, end: Option<u32>) -> Result<(), AllocError>
-        ensures { OnOk result (AreFound circuit.now (λ i. leads_to i end) self.old self.new) }
+        ensures { OnOk result (AreNumbersFound circuit.now (λ i. leads_to i end) self.old self.new) }
     {
         if let Some(node) = end {
             if is_free(circuit, node) {
@@ -67,7 +68,7 @@ impl Found {
         name: &Name,
     ) -> Result<(), AllocError>
         requires { circuit.now.names ≡ names.now }
-        ensures { OnOk result (AreFound circuit.now (λ i. bytes_eq (name_at circuit.now i) name.now) self.old self.new) }
+        ensures { OnOk result (AreFound circuit.now (λ n. bytes_eq n name.now) self.old self.new) }
     {
         circuit.node_count();
         self.add(circuit, names.find(name))
@@ -81,7 +82,7 @@ impl Found {
         element: &Element,
     ) -> Result<(), AllocError>
         requires { circuit.now.names ≡ names.now }
-        ensures { OnOk result (AreFound circuit.now (λ i. is_end (name_at circuit.now i) element.now) self.old self.new) }
+        ensures { OnOk result (AreFound circuit.now (λ n. is_end n element.now) self.old self.new) }
     {
         match element {
             Element::Resistor { first, second, .. } => self.add_two(circuit, names, first, second),
@@ -108,7 +109,8 @@ impl Found {
         second: &Name,
     ) -> Result<(), AllocError>
         requires { circuit.now.names ≡ names.now }
-        ensures { OnOk result (AreFound circuit.now (λ i. bytes_eq (name_at circuit.now i) first.now || bytes_eq (name_at circuit.now i) second.now) self.old self.new) }
+        ensures { OnOk result
+            (AreFound circuit.now (λ n. bytes_eq n first.now || bytes_eq n second.now) self.old self.new) }
     {
         self.add_name(circuit, names, first)?;
         self.add_name(circuit, names, second)
@@ -117,7 +119,8 @@ impl Found {
     /// Adds the free nodes at the ends of a device, its gate included.
     fn add_device(&mut self, circuit: &Circuit, device: u32) -> Result<(), AllocError>
         requires { device < length (devices circuit.now.deck) }
-        ensures { OnOk result (AreFound circuit.now (λ i. is_end (name_at circuit.now i) (device_of circuit.now.deck device)) self.old self.new) }
+        ensures { OnOk result
+            (AreFound circuit.now (λ n. is_end n (device_of circuit.now.deck device)) self.old self.new) }
     {
         circuit.node_count();
         let ends = circuit.ends(device);
@@ -129,7 +132,8 @@ impl Found {
     /// Adds the free nodes that share a device with a node.
     fn add_neighbours(&mut self, circuit: &Circuit, node: u32) -> Result<(), AllocError>
         requires { node < length circuit.now.names }
-        ensures { OnOk result (AreFound circuit.now (λ i. share circuit.now.deck (name_at circuit.now node) (name_at circuit.now i)) self.old self.new) }
+        ensures { OnOk result
+            (AreFound circuit.now (share circuit.now.deck (name_at circuit.now node)) self.old self.new) }
     {
         for device in circuit.near(node) {
             self.add_device(circuit, *device)?;
@@ -145,7 +149,7 @@ impl Found {
         name: &Name,
     ) -> Result<(), AllocError>
         requires { circuit.now.names ≡ names.now }
-        ensures { OnOk result (AreFound circuit.now (λ i. is_beside circuit.now.deck name.now (name_at circuit.now i)) self.old self.new) }
+        ensures { OnOk result (AreFound circuit.now (is_beside circuit.now.deck name.now) self.old self.new) }
     {
         circuit.node_count();
         match names.find(name) {
@@ -162,7 +166,8 @@ impl Found {
         name: &Name,
     ) -> Result<(), AllocError>
         requires { circuit.now.names ≡ names.now }
-        ensures { OnOk result (AreFound circuit.now (λ i. is_around_node circuit.now.deck name.now (name_at circuit.now i)) self.old self.new) }
+        ensures { OnOk result
+            (AreFound circuit.now (is_around_node circuit.now.deck name.now) self.old self.new) }
     {
         self.add_name(circuit, names, name)?;
         self.add_beside(circuit, names, name)
@@ -176,7 +181,8 @@ impl Found {
         element: &Element,
     ) -> Result<(), AllocError>
         requires { circuit.now.names ≡ names.now }
-        ensures { OnOk result (AreFound circuit.now (λ i. is_beside_source circuit.now.deck element.now (name_at circuit.now i)) self.old self.new) }
+        ensures { OnOk result
+            (AreFound circuit.now (is_beside_source circuit.now.deck element.now) self.old self.new) }
     {
         match element {
             Element::Source { plus, minus, .. } => {
@@ -197,7 +203,8 @@ impl Found {
         element: &Element,
     ) -> Result<(), AllocError>
         requires { circuit.now.names ≡ names.now }
-        ensures { OnOk result (AreFound circuit.now (λ i. is_near_element circuit.now.deck element.now (name_at circuit.now i)) self.old self.new) }
+        ensures { OnOk result
+            (AreFound circuit.now (is_near_element circuit.now.deck element.now) self.old self.new) }
     {
         self.add_ends(circuit, names, element)?;
         self.add_beside_source(circuit, names, element)

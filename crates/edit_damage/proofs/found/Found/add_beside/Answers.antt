@@ -1,5 +1,5 @@
 -- A name without a number is no neighbour's, and one with a number is that of its node.
-use Rattle.std.proofs.Common.{◌≡◌, ◌∙◌, ap, get_or, [], Option, None, Some, sym}
+use Rattle.std.proofs.Common.{◌≡◌, ◌∙◌, ap, get_or, [], None, Some, sym}
 use Rattle.std.proofs.lemmas.Result.{on_ok_weaker}
 use Rattle.semantics.specs.Neighbours.{share}
 use Rattle.circuit_model.specs.Ends.{number}
