@@ -1,0 +1,3 @@
+pub mod Pinned
+pub mod Played
+pub mod Printed
