@@ -1,178 +1,263 @@
--- From how an answer ends to the clauses of the top call.
-use Rattle.std.proofs.Common.{◌≡◌, ℕ, ◌≤◌, ◌<◌, Bool, true, false, cond, List, [], Option, Some, None, Result, Ok, Err, refl, sym, ◌∙◌, ap, inl, inr, ⊎_elim, subst, arith}
-use Rattle.std.specs.Prelude.{◌⊎◌, IfSome, length, nat_lt, codes}
-use Rattle.std.specs.Option.{option_map}
+-- From how the parts end to the clauses of the top call.
+use Rattle.std.proofs.Common.{◌≡◌, ℕ, ◌+◌, ◌≤◌, List, [], ◌++◌, length, take, drop, Option, Some, None, Result, Ok, Err, refl, sym, ◌∙◌, ap, inl, inr, ⊎_elim, subst, arith}
+use Rattle.std.specs.Prelude.{◌⊎◌, IfOk, IfSome, MatchResult, slice_get}
 use Rattle.std.specs.Io.KnownBytes.{Appends}
-use Rattle.std.specs.Str.{bytes_eq}
-use Rattle.std.proofs.lemmas.Bool.{le-ltb, lt-ltb, false≢true}
-use Rattle.std.proofs.lemmas.Slice.Eq.{bytes_eq-Decides}
+use Rattle.std.proofs.lemmas.List.{append_assoc, append-nil, take-append-drop}
+use Rattle.std.proofs.Math.Seq.{take-append_seam}
 use Rattle.outside.specs.Causes.{Rose}
-use Rattle.outside.specs.Content.{AppendsFront, SameElsewhere}
-use Rattle.outside.specs.declared.reading.TheConstants.{READ_LIMIT}
+use Rattle.outside.specs.Content.{AppendsFront}
 use Rattle.semantics.specs.Deck.{DeckValue}
 use Rattle.semantics.specs.Text.{default_output}
-use Rattle.deck_reader.specs.declared.why.DeckRefusal.{DeckRefusal}
-use Rattle.deck_reader.specs.Reading.{deck_in}
-use Rattle.wave_shell.specs.Answer.{Answer, answer, deck_answer, deck_name, refusal_text, said, Ends, Gives, IsFault, NameRose}
+use Rattle.wave_script.specs.declared.command.Command.{Command}
+use Rattle.script_session.specs.Session.{SessionValue, opened, Plays}
 use Rattle.wave_shell.specs.declared.status.Status.{Status}
 use Rattle.wave_shell.specs.declared.status.Status.TheVariants as status
+use Rattle.wave_shell.specs.declared.refusal.Refusal.{Refusal}
+use Rattle.wave_shell.specs.declared.refusal.Refusal.TheVariants as refused
+use Rattle.wave_shell.specs.declared.refusal.Stop.{Stop}
+use Rattle.wave_shell.specs.declared.refusal.Stop.TheVariants as stop
+use Rattle.wave_shell.specs.declared.job.Job.{Job}
+use Rattle.wave_shell.specs.Words.{deck_name, files, script_name}
+use Rattle.wave_shell.specs.Program.{judged, status_of, text_of, with_script, IsFault, IsValidWhereTold, MayFailToRead, MayPrint, MaySay, NameRose, Says, SaysFront}
+use Rattle.wave_shell.specs.Endings.{Answers, Concerns, Ends, IsSilent, JudgesWords, Tells}
+use Rattle.wave_shell.proofs.Played.{GoesOn, begins, goes_further, prints_some, all_played, front_played}
 
--- ---- the answer to a deck
+-- ---- bytes that were appended
 
-pub is_deck : (bytes : List ℕ) (d : DeckValue) → length bytes ≤ READ_LIMIT → deck_in bytes ≡ Ok d → deck_answer bytes ≡ said status.Ok (default_output d)
-unfolding deck_answer
-is_deck bytes d short is = rw (le-ltb READ_LIMIT (length bytes) short) (rw is refl)
+pub appends_none : (old : Option (List ℕ)) → Appends old old []
+appends_none None = tt
+appends_none (Some xs) = sym (append-nil xs)
 
-pub is_refused : (bytes : List ℕ) (r : DeckRefusal) → length bytes ≤ READ_LIMIT → deck_in bytes ≡ Err r → deck_answer bytes ≡ said status.Deck (refusal_text r)
-unfolding deck_answer
-is_refused bytes r short is = rw (le-ltb READ_LIMIT (length bytes) short) (rw is refl)
+pub appends_more : (old mid new : Option (List ℕ)) (a b : List ℕ) → Appends old mid a → Appends mid new b → Appends old new (a ++ b)
+appends_more None mid new a b first then = tt
+appends_more (Some xs) None new a b first then = absurd first
+appends_more (Some xs) (Some ys) None a b first then = absurd then
+appends_more (Some xs) (Some ys) (Some zs) a b first then = then ∙ ap (λ (l : List ℕ). l ++ b) first ∙ append_assoc xs a b
 
-pub too_long : (bytes : List ℕ) → READ_LIMIT < length bytes → deck_answer bytes ≡ said status.Deck (codes "deck 0 too long\n")
-unfolding deck_answer
-too_long bytes long = rw (lt-ltb READ_LIMIT (length bytes) long) refl
+-- a front of a text was appended
+front_is : (old new : Option (List ℕ)) (text front rest : List ℕ) → Appends old new front → text ≡ front ++ rest → AppendsFront old new text
+front_is old new text front rest h is = (length front, subst (λ (l : List ℕ). Appends old new l) (sym (ap (λ (l : List ℕ). take (length front) l) is ∙ take-append_seam front rest)) h)
 
--- the statuses that an answer may have
+-- ---- one job or refusal
+
+-- it may have some text
+some_text : (d : DeckValue) (script : Option (List (ℕ × Command))) → (text : List ℕ) × MayPrint d script text
+some_text d None = (default_output d, refl)
+some_text d (Some lines) = prints_some lines (opened d) (omega arith)
+
+-- where nothing was written, a front of that was
+pub nothing_said : (j : Result Job Refusal) (old new : Option (List ℕ)) → Appends old new [] → SaysFront j old new
+nothing_said (Err r) old new h = (text_of r, (status_of r, (refl, refl)), (0, h))
+nothing_said (Ok j) old new h = let some = some_text j.deck j.script in (some.0, (status.Ok, (refl, some.1)), (0, h))
+
+-- a text that may be said was told
+pub told : (j : Result Job Refusal) (s : Status) (text : List ℕ) (result : Status) (old new : Option (List ℕ)) (k l : ℕ) → MaySay j s text → Tells s text result old new k l → Ends j result old new k l
+told j s text result old new k l may tells = ⊎_elim
+    (λ (given : (result ≡ s) × Appends old new text). inl (text, subst (λ (t : Status). MaySay j t text) (sym given.0) may, given.1))
+    (λ (failed : (result ≡ status.Write) × Rose k l × AppendsFront old new text). inr (inl (failed.0, failed.1, (text, (s, may), failed.2))))
+    tells
+
+-- the text of a refusal was told
+pub refusal_told : (r said : Refusal) (result : Status) (old new : Option (List ℕ)) (k l : ℕ) → r ≡ said → Tells (status_of said) (text_of said) result old new k l → Ends (Err r) result old new k l
+refusal_told r said result old new k l is tells = told (Err r) (status_of said) (text_of said) result old new k l (ap status_of (sym is), ap text_of (sym is)) tells
+
+-- memory was wanting before anything was written
+pub silent : (j : Result Job Refusal) (result : Status) (old new : Option (List ℕ)) (k l : ℕ) → IsSilent status.Memory result old new → Ends j result old new k l
+silent j result old new k l h = inr (inr (h.0, nothing_said j old new h.1))
+
+-- the waves of a deck alone were told, where they could be made
+pub waves_told : {X E : Type 0} (bytes : X → List ℕ) (j : Job) (made : Result X E) (result : Status) (old new : Option (List ℕ)) (k l : ℕ) → j.script ≡ None
+    → IfOk made (λ text. bytes text ≡ default_output j.deck)
+    → MatchResult made (λ text. Tells status.Ok (bytes text) result old new k l) (λ _. IsSilent status.Memory result old new) → Ends (Ok j) result old new k l
+waves_told bytes j (Ok text) result old new k l none is tells =
+    told (Ok j) status.Ok (bytes text) result old new k l (refl, subst (λ (s : Option (List (ℕ × Command))). MayPrint j.deck s (bytes text)) (sym none) is) tells
+waves_told bytes j (Err e) result old new k l none is tells = silent (Ok j) result old new k l tells
+
+-- ---- a script
+
+abbrev pub played : DeckValue → List (ℕ × Command) → Result Job Refusal
+played d lines = Ok (with_script d lines)
+
+-- its lines so far were played, and their text was written
+pub record IsPlayed (d : DeckValue) (lines : List (ℕ × Command)) (place : ℕ) (now : SessionValue) (old new : Option (List ℕ)) : Type 0 where
+  pub done : List ℕ
+  pub goes : GoesOn d lines place now done
+  pub written : Appends old new done
+
+pub none_played : (d : DeckValue) (lines : List (ℕ × Command)) (s : SessionValue) (old : Option (List ℕ)) → s ≡ opened d → IsPlayed d lines 0 s old old
+none_played d lines s old is = record { done = []; goes = begins d lines s is; written = appends_none old }
+
+-- its end
+pub ends_played : (d : DeckValue) (lines : List (ℕ × Command)) (place : ℕ) (now : SessionValue) (old new : Option (List ℕ)) (k l : ℕ)
+    → IsPlayed d lines place now old new → length lines ≤ place → Ends (played d lines) status.Ok old new k l
+ends_played d lines place now old new k l h end = inl (h.done, (refl, all_played d lines place now h.done h.goes end), h.written)
+
+-- memory was wanting at a line
+pub stops_wanting : (d : DeckValue) (lines : List (ℕ × Command)) (place : ℕ) (now : SessionValue) (old new : Option (List ℕ)) (k l : ℕ)
+    → IsPlayed d lines place now old new → Ends (played d lines) status.Memory old new k l
+stops_wanting d lines place now old new k l h =
+    let rest = front_played d lines place now h.done h.goes in
+    inr (inr (refl, (h.done ++ rest.0, (status.Ok, (refl, rest.1)), front_is old new (h.done ++ rest.0) h.done rest.0 h.written refl)))
+
+-- a line was played, and all of its text was written
+pub plays_on : (d : DeckValue) (lines : List (ℕ × Command)) (place line : ℕ) (c : Command) (now next : SessionValue) (old mid new : Option (List ℕ)) (text : List ℕ)
+    → slice_get lines place ≡ Some (line, c) → IsPlayed d lines place now old mid → Plays now line c text next → Appends mid new text → IsPlayed d lines (place + 1) next old new
+plays_on d lines place line c now next old mid new text at h p appended = record {
+  done = h.done ++ text;
+  goes = goes_further d lines place line c now next h.done text at h.goes p;
+  written = appends_more old mid new h.done text h.written appended;
+}
+
+-- the text of a front of it and what is left
+cut : (done text more : List ℕ) (n : ℕ) → (done ++ text) ++ more ≡ (done ++ take n text) ++ (drop n text ++ more)
+cut done text more n =
+    ap (λ (t : List ℕ). (done ++ t) ++ more) (sym (take-append-drop n text))
+    ∙ ap (λ (l : List ℕ). l ++ more) (sym (append_assoc done (take n text) (drop n text)))
+    ∙ append_assoc (done ++ take n text) (drop n text) more
+
+-- a line was played, and the sink failed at its text
+pub stops_writing : (d : DeckValue) (lines : List (ℕ × Command)) (place line : ℕ) (c : Command) (now next : SessionValue) (old mid new : Option (List ℕ)) (text : List ℕ) (k m l : ℕ)
+    → slice_get lines place ≡ Some (line, c) → IsPlayed d lines place now old mid → Plays now line c text next → AppendsFront mid new text → k ≤ m → Rose m l
+    → Ends (played d lines) status.Write old new k l
+stops_writing d lines place line c now next old mid new text k m l at h p front low rose =
+    let further = goes_further d lines place line c now next h.done text at h.goes p in
+    let rest = front_played d lines (place + 1) next (h.done ++ text) further in
+    let n = front.0 in
+    let written : Appends old new (h.done ++ take n text) = appends_more old mid new h.done (take n text) h.written front.1 in
+    inr (inl (
+      refl,
+      omega arith,
+      (
+        (h.done ++ text) ++ rest.0,
+        (status.Ok, (refl, rest.1)),
+        front_is old new ((h.done ++ text) ++ rest.0) (h.done ++ take n text) (drop n text ++ rest.0) written (cut h.done text rest.0 n),
+      ),
+    ))
+
+-- ---- the clauses of the top call
+
+-- all that it says of how it ended
+pub record Clauses (b : List ℕ → Option (List ℕ)) (words : List (List ℕ)) (f g : List ℕ → ℕ) (old new : Option (List ℕ)) (k l : ℕ) (result : Status) : Type 0 where
+  pub answered : IsFault result ⊎ IfSome (judged b words) (λ j. Says j result old new)
+  pub words' : result ≡ status.Words → files words ≡ None
+  pub script : result ≡ status.Script → script_name words ≡ None → ⊥
+  pub read : result ≡ status.Read → MayFailToRead b f g words × Appends old new []
+  pub write : result ≡ status.Write → Rose k l
+  pub front : (result ≡ status.Write) ⊎ (result ≡ status.Memory) → IfSome (judged b words) (λ j. SaysFront j old new)
+  pub complete : (NameRose f g (deck_name words) → ⊥) → (NameRose f g (script_name words) → ⊥) → (Rose k l → ⊥)
+      → (result ≡ status.Memory) ⊎ IfSome (judged b words) (λ j. Says j result old new)
+
+-- a fact of one judgement is a fact of what is judged, where that is told
+known : (o : Option (Result Job Refusal)) (j : Result Job Refusal) (Q : Result Job Refusal → Type 0) → IfSome o (λ said. said ≡ j) → Q j → IfSome o Q
+known None j Q h q = tt
+known (Some x) j Q h q = subst Q (sym h) q
+
+-- a fact of each judgement
+each : (o : Option (Result Job Refusal)) (Q : Result Job Refusal → Type 0) → ((j : Result Job Refusal) → Q j) → IfSome o Q
+each None Q h = tt
+each (Some j) Q h = h j
+
+-- the statuses that a refusal or a job may have
 abbrev pub IsSaid : Status → Type 0
 IsSaid status.Ok = Unit {0}
 IsSaid status.Words = Unit {0}
 IsSaid status.Deck = Unit {0}
+IsSaid status.Script = Unit {0}
 IsSaid status.Memory = ⊥
-IsSaid status.Script = ⊥
 IsSaid status.Read = ⊥
 IsSaid status.Write = ⊥
 
--- an answer to a deck is no Words
-abbrev pub IsOfDeck : Status → Type 0
-IsOfDeck status.Ok = Unit {0}
-IsOfDeck status.Deck = Unit {0}
-IsOfDeck status.Words = ⊥
-IsOfDeck status.Memory = ⊥
-IsOfDeck status.Script = ⊥
-IsOfDeck status.Read = ⊥
-IsOfDeck status.Write = ⊥
+may_be : (j : Result Job Refusal) (s : Status) (text : List ℕ) → MaySay j s text → IsSaid s
+may_be (Err refused.Words) s text h = subst IsSaid (sym h.0) tt
+may_be (Err refused.DeckTooLong) s text h = subst IsSaid (sym h.0) tt
+may_be (Err (refused.Deck r)) s text h = subst IsSaid (sym h.0) tt
+may_be (Err refused.ScriptTooLong) s text h = subst IsSaid (sym h.0) tt
+may_be (Err (refused.Script r)) s text h = subst IsSaid (sym h.0) tt
+may_be (Ok j) s text h = subst IsSaid (sym h.0) tt
 
-pub of_deck : (bytes : List ℕ) → IsOfDeck (deck_answer bytes).0
-unfolding deck_answer
-of_deck bytes = by (nat_lt READ_LIMIT (length bytes)) (deck_in bytes)
-  where
-    by : (b : Bool) (o : Result DeckValue DeckRefusal) → IsOfDeck (cond {A = Answer} b (said status.Deck (codes "deck 0 too long\n")) (elim o as (λ _. Answer) [ Err r ↦ said status.Deck (refusal_text r) | Ok d ↦ said status.Ok (default_output d) ])).0
-    by true o = tt
-    by false (Err r) = tt
-    by false (Ok d) = tt
+-- what a judgement concerns
+abbrev pub Fits : List (List ℕ) → Result Job Refusal → Type 0
+Fits words (Err r) = Concerns words r
+Fits words (Ok j) = Unit {0}
 
-said_of : (s : Status) → IsOfDeck s → IsSaid s
-said_of status.Ok h = tt
-said_of status.Deck h = tt
-said_of status.Words h = absurd h
-said_of status.Memory h = absurd h
-said_of status.Script h = absurd h
-said_of status.Read h = absurd h
-said_of status.Write h = absurd h
+no_words : (words : List (List ℕ)) (j : Result Job Refusal) (text : List ℕ) → Fits words j → MaySay j status.Words text → files words ≡ None
+no_words words (Err refused.Words) text fits h = fits
+no_words words (Err refused.DeckTooLong) text fits h = absurd (cc)
+no_words words (Err (refused.Deck r)) text fits h = absurd (cc)
+no_words words (Err refused.ScriptTooLong) text fits h = absurd (cc)
+no_words words (Err (refused.Script r)) text fits h = absurd (cc)
+no_words words (Ok j) text fits h = absurd (cc)
 
-no_words : (s : Status) → IsOfDeck s → s ≡ status.Words → ⊥
-no_words s h e = subst IsOfDeck e h
+no_script : (words : List (List ℕ)) (j : Result Job Refusal) (text : List ℕ) → Fits words j → MaySay j status.Script text → script_name words ≡ None → ⊥
+no_script words (Err refused.Words) text fits h = absurd (cc)
+no_script words (Err refused.DeckTooLong) text fits h = absurd (cc)
+no_script words (Err (refused.Deck r)) text fits h = absurd (cc)
+no_script words (Err refused.ScriptTooLong) text fits h = fits
+no_script words (Err (refused.Script r)) text fits h = fits
+no_script words (Ok j) text fits h = absurd (cc)
 
--- ---- the clauses
-
--- all that the top call says of how it ended
-pub record Clauses (b : List ℕ → Option (List ℕ)) (words : List (List ℕ)) (f g : List ℕ → ℕ) (old new : Option (List ℕ)) (k l : ℕ) (result : Status) : Type 0 where
-  pub answered : IsFault result ⊎ IfSome (answer b words) (λ a. Gives a result old new)
-  pub words' : result ≡ status.Words → deck_name words ≡ None
-  pub script : result ≡ status.Script → ⊥
-  pub read : result ≡ status.Read → NameRose f g (deck_name words) × Appends old new []
-  pub write : result ≡ status.Write → Rose k l
-  pub front : (result ≡ status.Write) ⊎ (result ≡ status.Memory) → IfSome (answer b words) (λ a. AppendsFront old new a.1)
-  pub complete : (NameRose f g (deck_name words) → ⊥) → (Rose k l → ⊥) → (result ≡ status.Memory) ⊎ IfSome (answer b words) (λ a. Gives a result old new)
-
--- a fact of the one answer is a fact of it where it is told
-known : (o : Option Answer) (a : Answer) (Q : Answer → Type 0) → IfSome o (λ x. x ≡ a) → Q a → IfSome o Q
-known None a Q h q = tt
-known (Some x) a Q h q = subst Q (sym h) q
-
-fault_write : (s : Status) → s ≡ status.Write → IsFault s
-fault_write s e = subst IsFault (sym e) tt
-
-fault_memory : (s : Status) → s ≡ status.Memory → IsFault s
-fault_memory s e = subst IsFault (sym e) tt
-
--- an answer that is given, and is this one, which is one of those that may be given
-pub clauses : (b : List ℕ → Option (List ℕ)) (words : List (List ℕ)) (f g : List ℕ → ℕ) (old new : Option (List ℕ)) (k l : ℕ) (result : Status) (a : Answer)
-    → IsSaid a.0 → (a.0 ≡ status.Words → deck_name words ≡ None) → IfSome (answer b words) (λ x. x ≡ a) → Ends a result old new k l → Clauses b words f g old new k l result
-clauses b words f g old new k l result a may unfit is ends = ⊎_elim
-    (λ (given : Gives a result old new).
-    let same : a.0 ≡ result = sym given.0 in
-    let said' : IsSaid result = subst IsSaid same may in
-    let gives : IfSome (answer b words) (λ x. Gives x result old new) = known (answer b words) a (λ x. Gives x result old new) is given in
+-- a judgement was answered
+judged_clauses : (b : List ℕ → Option (List ℕ)) (words : List (List ℕ)) (f g : List ℕ → ℕ) (old new : Option (List ℕ)) (k l : ℕ) (result : Status) (j : Result Job Refusal)
+    → IfSome (judged b words) (λ said. said ≡ j) → Fits words j → Ends j result old new k l → Clauses b words f g old new k l result
+judged_clauses b words f g old new k l result j is fits ends = ⊎_elim
+    (λ (given : Says j result old new).
+    let says : IfSome (judged b words) (λ x. Says x result old new) = known (judged b words) j (λ x. Says x result old new) is given in
+    let said : IsSaid result = may_be j result given.0 given.1 in
     record {
-      answered = inr gives;
-      words' = λ e. unfit (same ∙ e);
-      script = λ e. subst IsSaid e said';
-      read = λ e. absurd (subst IsSaid e said');
-      write = λ e. absurd (subst IsSaid e said');
-      front = λ h. absurd (⊎_elim (λ (e : result ≡ status.Write). subst IsSaid e said') (λ (e : result ≡ status.Memory). subst IsSaid e said') h);
-      complete = λ _ _. inr gives;
+      answered = inr says;
+      words' = λ e. no_words words j given.0 fits (subst (λ (s : Status). MaySay j s given.0) e given.1);
+      script = λ e. no_script words j given.0 fits (subst (λ (s : Status). MaySay j s given.0) e given.1);
+      read = λ e. absurd (subst IsSaid e said);
+      write = λ e. absurd (subst IsSaid e said);
+      front = λ h. absurd (⊎_elim (λ (e : result ≡ status.Write). subst IsSaid e said) (λ (e : result ≡ status.Memory). subst IsSaid e said) h);
+      complete = λ _ _ _. inr says;
     })
     (λ rest. ⊎_elim
-    (λ (failed : (result ≡ status.Write) × Rose k l × AppendsFront old new a.1).
+    (λ (failed : (result ≡ status.Write) × Rose k l × SaysFront j old new).
     record {
-      answered = inl (fault_write result failed.0);
+      answered = inl (subst IsFault (sym failed.0) tt);
       words' = λ e. let clash : status.Write ≡ status.Words = sym failed.0 ∙ e in absurd (cc);
-      script = λ e. let clash : status.Write ≡ status.Script = sym failed.0 ∙ e in cc;
+      script = λ e. let clash : status.Write ≡ status.Script = sym failed.0 ∙ e in absurd (cc);
       read = λ e. let clash : status.Write ≡ status.Read = sym failed.0 ∙ e in absurd (cc);
       write = λ _. failed.1;
-      front = λ _. known (answer b words) a (λ x. AppendsFront old new x.1) is failed.2;
-      complete = λ _ no. absurd (no failed.1);
+      front = λ _. known (judged b words) j (λ x. SaysFront x old new) is failed.2;
+      complete = λ _ _ no. absurd (no failed.1);
     })
-    (λ (wanting : (result ≡ status.Memory) × AppendsFront old new a.1).
+    (λ (wanting : (result ≡ status.Memory) × SaysFront j old new).
     record {
-      answered = inl (fault_memory result wanting.0);
+      answered = inl (subst IsFault (sym wanting.0) tt);
       words' = λ e. let clash : status.Memory ≡ status.Words = sym wanting.0 ∙ e in absurd (cc);
-      script = λ e. let clash : status.Memory ≡ status.Script = sym wanting.0 ∙ e in cc;
+      script = λ e. let clash : status.Memory ≡ status.Script = sym wanting.0 ∙ e in absurd (cc);
       read = λ e. let clash : status.Memory ≡ status.Read = sym wanting.0 ∙ e in absurd (cc);
       write = λ e. let clash : status.Memory ≡ status.Write = sym wanting.0 ∙ e in absurd (cc);
-      front = λ _. known (answer b words) a (λ x. AppendsFront old new x.1) is wanting.1;
-      complete = λ _ _. inl wanting.0;
+      front = λ _. known (judged b words) j (λ x. SaysFront x old new) is wanting.1;
+      complete = λ _ _ _. inl wanting.0;
     })
     rest)
     ends
 
--- ---- which answer it is
-
--- the words do not fit
-pub unfit_answer : (b : List ℕ → Option (List ℕ)) (words : List (List ℕ)) → deck_name words ≡ None → IfSome (answer b words) (λ x. x ≡ said status.Words (codes "words do not fit the command\n"))
-unfolding answer
-unfit_answer b words none = rw (none, answer) refl
-
--- the bytes of the deck are these, where they are told
-pub deck_known : (b : List ℕ → Option (List ℕ)) (words : List (List ℕ)) (name bytes : List ℕ) → deck_name words ≡ Some name → IfSome (b name) (λ told. bytes ≡ told) → IfSome (answer b words) (λ x. x ≡ deck_answer bytes)
-unfolding answer
-deck_known b words name bytes is told = rw (is, answer) (by (b name) told)
-  where
-    by : (o : Option (List ℕ)) → IfSome o (λ x. bytes ≡ x) → IfSome (option_map deck_answer o) (λ x. x ≡ deck_answer bytes)
-    by None h = tt
-    by (Some x) h = ap deck_answer (sym h)
-
--- they are too long, where they are told
-pub long_known : (b : List ℕ → Option (List ℕ)) (words : List (List ℕ)) (name : List ℕ) → deck_name words ≡ Some name → IfSome (b name) (λ told. READ_LIMIT < length told) → IfSome (answer b words) (λ x. x ≡ said status.Deck (codes "deck 0 too long\n"))
-unfolding answer
-long_known b words name is told = rw (is, answer) (by (b name) told)
-  where
-    by : (o : Option (List ℕ)) → IfSome o (λ x. READ_LIMIT < length x) → IfSome (option_map deck_answer o) (λ x. x ≡ said status.Deck (codes "deck 0 too long\n"))
-    by None h = tt
-    by (Some x) h = too_long x h
-
-pub deck_may : (bytes : List ℕ) → IsSaid (deck_answer bytes).0
-deck_may bytes = said_of (deck_answer bytes).0 (of_deck bytes)
-
-pub deck_fits : (bytes : List ℕ) (words : List (List ℕ)) → (deck_answer bytes).0 ≡ status.Words → deck_name words ≡ None
-deck_fits bytes words e = absurd (no_words (deck_answer bytes).0 (of_deck bytes) e)
-
--- ---- what the call leaves
-
--- where no count falls at one name and the others stay, none falls
-pub none_falls : (name : List ℕ) (f g : List ℕ → ℕ) → f name ≤ g name → SameElsewhere name f g → (other : List ℕ) → f other ≤ g other
-none_falls name f g here elsewhere other = by (bytes_eq other name) refl
-  where
-    by : (b : Bool) → bytes_eq other name ≡ b → f other ≤ g other
-    by true e = subst (λ n. f n ≤ g n) (sym ((bytes_eq-Decides other name).0 e)) here
-    by false e = omega (arith, elsewhere other (λ same. absurd (false≢true (sym e ∙ (bytes_eq-Decides other name).1 same))))
+-- what the words gave was answered
+pub clauses : (b : List ℕ → Option (List ℕ)) (words : List (List ℕ)) (f g : List ℕ → ℕ) (old new : Option (List ℕ)) (k l : ℕ) (result : Status) (given : Result Job Stop)
+    → JudgesWords b f g words given → Answers given result old new k l → Clauses b words f g old new k l result
+clauses b words f g old new k l result (Ok j) is ends = judged_clauses b words f g old new k l result (Ok j) is tt ends
+clauses b words f g old new k l result (Err (stop.Refused r)) is ends = judged_clauses b words f g old new k l result (Err r) is.0 is.1 ends
+clauses b words f g old new k l result (Err stop.Read) is ends = record {
+  answered = inl (subst IsFault (sym ends.0) tt);
+  words' = λ e. let clash : status.Read ≡ status.Words = sym ends.0 ∙ e in absurd (cc);
+  script = λ e. let clash : status.Read ≡ status.Script = sym ends.0 ∙ e in absurd (cc);
+  read = λ _. (is, ends.1);
+  write = λ e. let clash : status.Read ≡ status.Write = sym ends.0 ∙ e in absurd (cc);
+  front = λ h. absurd (⊎_elim
+      (λ (e : result ≡ status.Write). let clash : status.Read ≡ status.Write = sym ends.0 ∙ e in cc)
+      (λ (e : result ≡ status.Memory). let clash : status.Read ≡ status.Memory = sym ends.0 ∙ e in cc) h);
+  complete = λ deck script _. absurd (⊎_elim deck (λ (h : NameRose f g (script_name words) × IsValidWhereTold b (deck_name words)). script h.0) is);
+}
+clauses b words f g old new k l result (Err stop.Memory) is ends = record {
+  answered = inl (subst IsFault (sym ends.0) tt);
+  words' = λ e. let clash : status.Memory ≡ status.Words = sym ends.0 ∙ e in absurd (cc);
+  script = λ e. let clash : status.Memory ≡ status.Script = sym ends.0 ∙ e in absurd (cc);
+  read = λ e. let clash : status.Memory ≡ status.Read = sym ends.0 ∙ e in absurd (cc);
+  write = λ e. let clash : status.Memory ≡ status.Write = sym ends.0 ∙ e in absurd (cc);
+  front = λ _. each (judged b words) (λ j. SaysFront j old new) (λ j. nothing_said j old new ends.1);
+  complete = λ _ _ _. inl ends.0;
+}

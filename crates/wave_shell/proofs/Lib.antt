@@ -1,2 +1,5 @@
+pub mod Names
+pub mod Judging
+pub mod Played
 pub mod Endings
 pub mod WaveTexts

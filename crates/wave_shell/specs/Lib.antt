@@ -1,1 +1,3 @@
-pub mod Answer
+pub mod Words
+pub mod Program
+pub mod Endings

@@ -1,10 +1,10 @@
 ghost use Rattle.std.specs.Prelude.{◌≡◌};
-ghost use Rattle.wave_shell.specs.Answer.{code};
+ghost use Rattle.wave_shell.specs.Program.{code};
 
 /// How a call of the program ended.
 #[derive(Clone, Copy, Debug, PartialEq, Eq)]
 pub enum Status {
-    /// The waves are written.
+    /// The deck was run, or the script was played, and the text is written.
     Ok,
     /// Memory ran out.
     Memory,
@@ -12,9 +12,9 @@ pub enum Status {
     Words,
     /// The deck is too long or is refused.
     Deck,
-    /// The script is too long or is refused; there are no scripts yet.
+    /// The script is too long or is refused.
     Script,
-    /// The deck could not be read.
+    /// The deck or the script could not be read.
     Read,
     /// The output could not be written.
     Write,

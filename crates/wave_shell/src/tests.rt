@@ -1,7 +1,8 @@
 ghost use Rattle.std.specs.Prelude.{◌<◌, map, string_bytes, Contains, IfSome, IsTrue};
 ghost use Rattle.outside.specs.MemShelf.{names_of};
-ghost use Rattle.wave_shell.specs.Answer.{deck_name};
+ghost use Rattle.wave_shell.specs.Words.{deck_name, script_name};
 
+use crate::words::files;
 use crate::*;
 use outside::{MemShelf, MemSink};
 use std::alloc::{AllocError, Global};
@@ -41,13 +42,34 @@ fn shelf_of(
     MemShelf::new(alloc, files, most, calls)
 }
 
-// Whether the shelf has the word, where there is one word.
-fn has_the_word(shelf: &MemShelf, words: &[String]) -> bool
-    ensures { IsTrue result → IfSome (deck_name (map string_bytes words.now)) (λ name. Contains (names_of shelf.now) name) }
+// A shelf with a deck and a script, where a call on the script fails that has one of these numbers.
+fn shelf_of_two(
+    alloc: Global,
+    deck: &[u8],
+    script: Option<Vec<u8>>,
+    failing: &[u64],
+) -> Result<MemShelf, AllocError> {
+    let mut files = Vec::new(alloc);
+    files.push((String::from_str(alloc, "b.sp")?, Some(deck.to_vec(alloc)?)))?;
+    files.push((String::from_str(alloc, "b.edits")?, script))?;
+    let mut calls = Vec::new(alloc);
+    for number in failing {
+        calls.push((String::from_str(alloc, "b.edits")?, *number))?;
+    }
+    MemShelf::new(alloc, files, PIECE, calls)
+}
+
+// Whether the shelf has the files that the words name.
+fn has_the_files(shelf: &MemShelf, words: &[String]) -> bool
+    ensures deck { IsTrue result → IfSome (deck_name (map string_bytes words.now)) (λ name. Contains (names_of shelf.now) name) }
+    ensures script { IsTrue result → IfSome (script_name (map string_bytes words.now)) (λ name. Contains (names_of shelf.now) name) }
 {
-    match words {
-        [word] => shelf.has(word.as_str()),
-        _ => true,
+    let Some(names) = files(words) else {
+        return true;
+    };
+    match names.script {
+        None => shelf.has(names.deck),
+        Some(script) => shelf.has(names.deck) && shelf.has(script),
     }
 }
 
@@ -63,7 +85,7 @@ fn run_on(
     for text in texts {
         words.push(String::from_str(alloc, text)?)?;
     }
-    assert!(rt; has_the_word(&shelf, &words));
+    assert!(rt; has_the_files(&shelf, &words));
     let mut sink = MemSink::new(alloc, 65536, PIECE, failing.to_vec(alloc)?)?;
     let status = run_alone(alloc, &words, &mut shelf, &mut sink);
     Ok((status, sink.written().to_vec(alloc)?))
@@ -118,11 +140,18 @@ fn answers_the_deck(rt: HostRuntime) -> Result<(), Fail> {
 #[test]
 fn answers_the_words(rt: HostRuntime) -> Result<(), Fail> {
     let alloc = rt.alloc();
-    let cases: [(&str, &[&str], Status, &[u8]); 6] = [
+    let twice = b"script 1 unknown command rc\n";
+    let cases: [(&str, &[&str], Status, &[u8]); 12] = [
         ("b.sp", &[], Status::Words, UNFIT),
-        ("b.sp", &["b.sp", "b.sp"], Status::Words, UNFIT),
+        ("b.sp", &["b.sp", "b.sp"], Status::Script, twice),
+        ("b.sp", &["b.sp", "b.sp", "b.sp"], Status::Words, UNFIT),
         ("-x", &["-x"], Status::Words, UNFIT),
+        ("-x", &["-x", "--"], Status::Words, UNFIT),
+        ("-x", &["--", "-x"], Status::Ok, WAVES),
+        ("-x", &["--", "-x", "-x"], Status::Script, twice),
         ("--", &["--"], Status::Words, UNFIT),
+        ("--", &["--", "--"], Status::Ok, WAVES),
+        ("b.sp", &["b.sp", "--"], Status::Ok, WAVES),
         ("-", &["-"], Status::Ok, WAVES),
         ("b-", &["b-"], Status::Ok, WAVES),
     ];
@@ -142,6 +171,67 @@ fn writes_nothing_where_the_deck_is_not_there(rt: HostRuntime) -> Result<(), Fai
     let (status, written) = run_on(&rt, alloc, &["b.sp"], shelf, &[])?;
     assert_eq!(rt; written.len(), 0);
     assert_eq!(rt; status, Status::Read);
+    Ok(())
+}
+
+#[test]
+fn tells_the_first_fault_of_both_files(rt: HostRuntime) -> Result<(), Fail> {
+    let alloc = rt.alloc();
+    let no_stop = b"rc\n.END\n";
+    let cases: [(&[u8], Vec<u8>, Status, &[u8]); 4] = [
+        (
+            DECK,
+            b"* a comment\nrun\nset r1\njump\n".to_vec(alloc)?,
+            Status::Script,
+            b"script 3 wrong words\n",
+        ),
+        (
+            no_stop,
+            b"jump\n".to_vec(alloc)?,
+            Status::Deck,
+            b"deck 2 no .TRAN\n",
+        ),
+        (
+            DECK,
+            vec![in alloc; b'\n'; 16_777_217]?,
+            Status::Script,
+            b"script 0 too long\n",
+        ),
+        (
+            no_stop,
+            vec![in alloc; b'\n'; 16_777_217]?,
+            Status::Deck,
+            b"deck 2 no .TRAN\n",
+        ),
+    ];
+    for (deck, script, want, text) in cases {
+        let shelf = shelf_of_two(alloc, deck, Some(script), &[])?;
+        let (status, written) = run_on(&rt, alloc, &["b.sp", "b.edits"], shelf, &[])?;
+        assert_eq!(rt; written.as_slice(), text);
+        assert_eq!(rt; status, want);
+    }
+    Ok(())
+}
+
+#[test]
+fn writes_nothing_where_the_script_is_not_read(rt: HostRuntime) -> Result<(), Fail> {
+    let alloc = rt.alloc();
+    let missing = shelf_of_two(alloc, DECK, None, &[])?;
+    let (status, written) = run_on(&rt, alloc, &["b.sp", "b.edits"], missing, &[])?;
+    assert_eq!(rt; written.len(), 0);
+    assert_eq!(rt; status, Status::Read);
+    // The calls that give the script are the first two, and the third gives no byte more.
+    for call in 0..3 {
+        let shelf = shelf_of_two(
+            alloc,
+            DECK,
+            Some(b"look\nset r1 2000\n".to_vec(alloc)?),
+            &[call],
+        )?;
+        let (status, written) = run_on(&rt, alloc, &["b.sp", "b.edits"], shelf, &[])?;
+        assert_eq!(rt; written.len(), 0, "at call {call}");
+        assert_eq!(rt; status, Status::Read, "at call {call}");
+    }
     Ok(())
 }
 
