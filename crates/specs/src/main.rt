@@ -18,6 +18,7 @@ fn words(rt: &HostRuntime) -> Result<Vec<String>, AllocError> {
 }
 
 /// Runs the program over the files that the words name and the standard output.
+#[tactic(auto, using(wave_shell::proofs::Names::deck_among, wave_shell::proofs::Names::script_among))]
 fn run(rt: &HostRuntime) -> Status {
     let Ok(words) = words(rt) else {
         return Status::Memory;

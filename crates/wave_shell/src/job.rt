@@ -96,9 +96,12 @@ fn read_lines<S: Shelf>(alloc: Global, shelf: &mut S, name: &str) -> Result<Scri
 ///
 /// The deck is read to its end and judged, and then the script, where one is named.
 pub fn judge<S: Shelf>(alloc: Global, words: &[String], shelf: &mut S) -> Result<Job, Stop>
-    requires deck { IfSome (deck_name (map string_bytes words.now)) (λ name. Contains (S.names shelf.old) name) }
-    requires script { IfSome (script_name (map string_bytes words.now)) (λ name. Contains (S.names shelf.old) name) }
-    ensures judged { JudgesWords (S.bytes shelf.old) (S.faults shelf.old) (S.faults shelf.new) (map string_bytes words.now) result }
+    requires deck { IfSome (deck_name (map string_bytes words.now)) (λ name.
+        Contains (S.names shelf.old) name) }
+    requires script { IfSome (script_name (map string_bytes words.now)) (λ name.
+        Contains (S.names shelf.old) name) }
+    ensures judged { JudgesWords (S.bytes shelf.old) (S.faults shelf.old) (S.faults shelf.new)
+        (map string_bytes words.now) result }
 
     ensures names { S.names shelf.new ≡ S.names shelf.old }
     ensures bytes { SameBytes (S.bytes shelf.old) (S.bytes shelf.new) }

@@ -1,4 +1,4 @@
-ghost use Rattle.std.specs.Prelude.{◌≡◌, ◌≤◌, ◌⊎◌, ℕ, List, None, Err, Ok, map, string_bytes, Contains, IfSome, MatchResult, []};
+ghost use Rattle.std.specs.Prelude.{◌≡◌, ◌≤◌, ◌⊎◌, ℕ, List, [], None, Err, Ok, map, string_bytes, Contains, IfSome, MatchResult};
 ghost use Rattle.std.specs.Io.KnownBytes.{Appends};
 ghost use Rattle.outside.specs.Causes.{Rose};
 ghost use Rattle.outside.specs.Content.{SameBytes};
@@ -25,7 +25,8 @@ const SCRIPT_TOO_LONG: &[u8] = b"script 0 too long\n";
 
 /// Writes a text, and answers the status with which it goes.
 fn say<K: Sink>(sink: &mut K, status: Status, text: &[u8]) -> Status
-    ensures tells { Tells status text.now result (K.written sink.old) (K.written sink.new) (K.faults sink.old) (K.faults sink.new) }
+    ensures tells { Tells status text.now result
+        (K.written sink.old) (K.written sink.new) (K.faults sink.old) (K.faults sink.new) }
     ensures later { K.faults sink.old ≤ K.faults sink.new }
 {
     match write_all(sink, text) {
@@ -37,7 +38,8 @@ fn say<K: Sink>(sink: &mut K, status: Status, text: &[u8]) -> Status
 /// The same of a text for which memory may be wanting.
 fn say_made<K: Sink>(sink: &mut K, status: Status, made: Result<String, AllocError>) -> Status
     ensures tells { MatchResult made
-        (λ text. Tells status (string_bytes text) result (K.written sink.old) (K.written sink.new) (K.faults sink.old) (K.faults sink.new))
+        (λ text. Tells status (string_bytes text) result
+        (K.written sink.old) (K.written sink.new) (K.faults sink.old) (K.faults sink.new))
         (λ _. IsSilent OutOfMemory result (K.written sink.old) (K.written sink.new)) }
     ensures later { K.faults sink.old ≤ K.faults sink.new }
 {
@@ -49,7 +51,8 @@ fn say_made<K: Sink>(sink: &mut K, status: Status, made: Result<String, AllocErr
 
 /// Tells a refusal.
 fn refuse<K: Sink>(alloc: Global, refusal: &Refusal, sink: &mut K) -> Status
-    ensures ends { Ends (Err refusal.now) result (K.written sink.old) (K.written sink.new) (K.faults sink.old) (K.faults sink.new) }
+    ensures ends { Ends (Err refusal.now) result
+        (K.written sink.old) (K.written sink.new) (K.faults sink.old) (K.faults sink.new) }
     ensures later { K.faults sink.old ≤ K.faults sink.new }
 {
     match refusal {
@@ -63,7 +66,8 @@ fn refuse<K: Sink>(alloc: Global, refusal: &Refusal, sink: &mut K) -> Status
 
 /// Does a job: writes the waves of its deck, or what its script prints.
 fn work<K: Sink>(alloc: Global, job: Job, sink: &mut K) -> Status
-    ensures ends { Ends (Ok job) result (K.written sink.old) (K.written sink.new) (K.faults sink.old) (K.faults sink.new) }
+    ensures ends { Ends (Ok job) result
+        (K.written sink.old) (K.written sink.new) (K.faults sink.old) (K.faults sink.new) }
     ensures later { K.faults sink.old ≤ K.faults sink.new }
 {
     let Job { deck, script } = job;
@@ -75,7 +79,8 @@ fn work<K: Sink>(alloc: Global, job: Job, sink: &mut K) -> Status
 
 /// Does the job that the words gave, or tells why they gave none.
 fn answer<K: Sink>(alloc: Global, given: Result<Job, Stop>, sink: &mut K) -> Status
-    ensures answers { Answers given result (K.written sink.old) (K.written sink.new) (K.faults sink.old) (K.faults sink.new) }
+    ensures answers { Answers given result
+        (K.written sink.old) (K.written sink.new) (K.faults sink.old) (K.faults sink.new) }
     ensures later { K.faults sink.old ≤ K.faults sink.new }
 {
     match given {
@@ -93,10 +98,10 @@ fn answer<K: Sink>(alloc: Global, given: Result<Job, Stop>, sink: &mut K) -> Sta
 /// The words are those after the program's name. They fit where there are one or two names among
 /// them, the deck's and then the script's. A word that begins with `-` is a name where it is `-`
 /// alone, or where a word `--` stands before it, which is then no name itself. Else the answer is
-/// `Words`. It is `Deck` where the deck has more than 16,777,216 bytes or a fault, of which the first
-/// is told, and `Script` the same of the script, of a deck without fault. The deck is read to its
-/// end before the script, and both before the first byte is written. With `Ok`, `Words`, `Deck` and
-/// `Script` the whole text is written, and with `Read` nothing.
+/// `Words`. It is `Deck` where the deck has more than 16,777,216 bytes or a fault, of which the
+/// first is told, and `Script` where the deck has none and the script is so. The deck is read to
+/// its end and judged before the script is read, and both before the first byte is written. With
+/// `Ok`, `Words`, `Deck` and `Script` the whole text is written, and with `Read` nothing.
 pub fn run_alone<S: Shelf, K: Sink>(
     alloc: Global,
     words: &[String],
@@ -104,27 +109,40 @@ pub fn run_alone<S: Shelf, K: Sink>(
     sink: &mut K,
 ) -> Status
     // The files that the words name are the shelf's.
-    requires deck { IfSome (deck_name (map string_bytes words.now)) (λ name. Contains (S.names shelf.old) name) }
-    requires script { IfSome (script_name (map string_bytes words.now)) (λ name. Contains (S.names shelf.old) name) }
+    requires deck { IfSome (deck_name (map string_bytes words.now)) (λ name.
+        Contains (S.names shelf.old) name) }
+    requires script { IfSome (script_name (map string_bytes words.now)) (λ name.
+        Contains (S.names shelf.old) name) }
 
     // Each answer but a fault is one of these words and bytes, and its text is written whole.
-    ensures answered { IsFault result ⊎ IfSome (judged (S.bytes shelf.old) (map string_bytes words.now)) (λ j. Says j result (K.written sink.old) (K.written sink.new)) }
-    // Words comes only where the words do not fit, and Script only where they name a script, also for bytes that are not told.
+    ensures answered { IsFault result
+        ⊎ IfSome (judged (S.bytes shelf.old) (map string_bytes words.now)) (λ j.
+        Says j result (K.written sink.old) (K.written sink.new)) }
+    // Words comes only where the words do not fit, and Script only where they name a script, also
+    // for bytes that are not told.
     ensures words { result ≡ Status.Words → files (map string_bytes words.now) ≡ None }
     ensures script { result ≡ Status.Script → script_name (map string_bytes words.now) ≡ None → ⊥ }
-    // A fault of reading comes only where the count of the deck's name rose, or that of the script's did and the deck is valid, and nothing is written.
-    ensures read { result ≡ Status.Read → MayFailToRead (S.bytes shelf.old) (S.faults shelf.old) (S.faults shelf.new) (map string_bytes words.now)
+    // A fault of reading comes only where the count of the deck's name rose, or that of the script's
+    // did and the deck is valid, and nothing is written.
+    ensures read { result ≡ Status.Read
+        → MayFailToRead (S.bytes shelf.old) (S.faults shelf.old) (S.faults shelf.new)
+        (map string_bytes words.now)
         × Appends (K.written sink.old) (K.written sink.new) [] }
     // A fault of writing comes only where the sink's count rose.
     ensures write { result ≡ Status.Write → Rose (K.faults sink.old) (K.faults sink.new) }
     // After it, and after want of memory, a front of a text that may be said is written.
-    ensures front { (result ≡ Status.Write) ⊎ (result ≡ Status.Memory) → IfSome (judged (S.bytes shelf.old) (map string_bytes words.now)) (λ j.
+    ensures front { (result ≡ Status.Write) ⊎ (result ≡ Status.Memory)
+        → IfSome (judged (S.bytes shelf.old) (map string_bytes words.now)) (λ j.
         SaysFront j (K.written sink.old) (K.written sink.new)) }
     // Where none of the counts rose, it is such an answer, or memory is wanting.
-    ensures complete { (NameRose (S.faults shelf.old) (S.faults shelf.new) (deck_name (map string_bytes words.now)) → ⊥)
-        → (NameRose (S.faults shelf.old) (S.faults shelf.new) (script_name (map string_bytes words.now)) → ⊥)
+    ensures complete { (NameRose (S.faults shelf.old) (S.faults shelf.new)
+        (deck_name (map string_bytes words.now)) → ⊥)
+        → (NameRose (S.faults shelf.old) (S.faults shelf.new)
+        (script_name (map string_bytes words.now)) → ⊥)
         → (Rose (K.faults sink.old) (K.faults sink.new) → ⊥)
-        → (result ≡ Status.Memory) ⊎ IfSome (judged (S.bytes shelf.old) (map string_bytes words.now)) (λ j. Says j result (K.written sink.old) (K.written sink.new)) }
+        → (result ≡ Status.Memory)
+        ⊎ IfSome (judged (S.bytes shelf.old) (map string_bytes words.now)) (λ j.
+        Says j result (K.written sink.old) (K.written sink.new)) }
 
     // What the call leaves: the shelf's names and bytes stay, and no count falls.
     ensures names { S.names shelf.new ≡ S.names shelf.old }

@@ -61,8 +61,10 @@ fn shelf_of_two(
 
 // Whether the shelf has the files that the words name.
 fn has_the_files(shelf: &MemShelf, words: &[String]) -> bool
-    ensures deck { IsTrue result → IfSome (deck_name (map string_bytes words.now)) (λ name. Contains (names_of shelf.now) name) }
-    ensures script { IsTrue result → IfSome (script_name (map string_bytes words.now)) (λ name. Contains (names_of shelf.now) name) }
+    ensures deck { IsTrue result → IfSome (deck_name (map string_bytes words.now)) (λ name.
+        Contains (names_of shelf.now) name) }
+    ensures script { IsTrue result → IfSome (script_name (map string_bytes words.now)) (λ name.
+        Contains (names_of shelf.now) name) }
 {
     let Some(names) = files(words) else {
         return true;
