@@ -28,15 +28,22 @@ pub appends_none : (old : Option (List ℕ)) → Appends old old []
 appends_none None = tt
 appends_none (Some xs) = sym (append-nil xs)
 
-pub appends_more : (old mid new : Option (List ℕ)) (a b : List ℕ) → Appends old mid a → Appends mid new b → Appends old new (a ++ b)
+pub appends_more : (old mid new : Option (List ℕ)) (a b : List ℕ) → Appends old mid a → Appends mid new b
+    → Appends old new (a ++ b)
 appends_more None mid new a b first then = tt
 appends_more (Some xs) None new a b first then = absurd first
 appends_more (Some xs) (Some ys) None a b first then = absurd then
-appends_more (Some xs) (Some ys) (Some zs) a b first then = then ∙ ap (λ (l : List ℕ). l ++ b) first ∙ append_assoc xs a b
+appends_more (Some xs) (Some ys) (Some zs) a b first then =
+    then ∙ ap (λ (l : List ℕ). l ++ b) first ∙ append_assoc xs a b
 
 -- a front of a text was appended
-front_is : (old new : Option (List ℕ)) (text front rest : List ℕ) → Appends old new front → text ≡ front ++ rest → AppendsFront old new text
-front_is old new text front rest h is = (length front, subst (λ (l : List ℕ). Appends old new l) (sym (ap (λ (l : List ℕ). take (length front) l) is ∙ take-append_seam front rest)) h)
+front_is : (old new : Option (List ℕ)) (text front rest : List ℕ) → Appends old new front → text ≡ front ++ rest
+    → AppendsFront old new text
+front_is old new text front rest h is = (
+  length front,
+  subst (λ (l : List ℕ). Appends old new l)
+      (sym (ap (λ (l : List ℕ). take (length front) l) is ∙ take-append_seam front rest)) h,
+)
 
 -- ---- one job or refusal
 
@@ -51,26 +58,35 @@ nothing_said (Err r) old new h = (text_of r, (status_of r, (refl, refl)), (0, h)
 nothing_said (Ok j) old new h = let some = some_text j.deck j.script in (some.0, (status.Ok, (refl, some.1)), (0, h))
 
 -- a text that may be said was told
-pub told : (j : Result Job Refusal) (s : Status) (text : List ℕ) (result : Status) (old new : Option (List ℕ)) (k l : ℕ) → MaySay j s text → Tells s text result old new k l → Ends j result old new k l
+pub told : (j : Result Job Refusal) (s : Status) (text : List ℕ) (result : Status) (old new : Option (List ℕ))
+    (k l : ℕ) → MaySay j s text → Tells s text result old new k l → Ends j result old new k l
 told j s text result old new k l may tells = ⊎_elim
-    (λ (given : (result ≡ s) × Appends old new text). inl (text, subst (λ (t : Status). MaySay j t text) (sym given.0) may, given.1))
-    (λ (failed : (result ≡ status.Write) × Rose k l × AppendsFront old new text). inr (inl (failed.0, failed.1, (text, (s, may), failed.2))))
+    (λ (given : (result ≡ s) × Appends old new text). inl
+    (text, subst (λ (t : Status). MaySay j t text) (sym given.0) may, given.1))
+    (λ (failed : (result ≡ status.Write) × Rose k l × AppendsFront old new text). inr
+    (inl (failed.0, failed.1, (text, (s, may), failed.2))))
     tells
 
 -- the text of a refusal was told
-pub refusal_told : (r said : Refusal) (result : Status) (old new : Option (List ℕ)) (k l : ℕ) → r ≡ said → Tells (status_of said) (text_of said) result old new k l → Ends (Err r) result old new k l
-refusal_told r said result old new k l is tells = told (Err r) (status_of said) (text_of said) result old new k l (ap status_of (sym is), ap text_of (sym is)) tells
+pub refusal_told : (r said : Refusal) (result : Status) (old new : Option (List ℕ)) (k l : ℕ) → r ≡ said
+    → Tells (status_of said) (text_of said) result old new k l → Ends (Err r) result old new k l
+refusal_told r said result old new k l is tells = told (Err r) (status_of said) (text_of said) result old new k l
+    (ap status_of (sym is), ap text_of (sym is)) tells
 
 -- memory was wanting before anything was written
-pub silent : (j : Result Job Refusal) (result : Status) (old new : Option (List ℕ)) (k l : ℕ) → IsSilent status.Memory result old new → Ends j result old new k l
+pub silent : (j : Result Job Refusal) (result : Status) (old new : Option (List ℕ)) (k l : ℕ)
+    → IsSilent status.Memory result old new → Ends j result old new k l
 silent j result old new k l h = inr (inr (h.0, nothing_said j old new h.1))
 
 -- the waves of a deck alone were told, where they could be made
-pub waves_told : {X E : Type 0} (bytes : X → List ℕ) (j : Job) (made : Result X E) (result : Status) (old new : Option (List ℕ)) (k l : ℕ) → j.script ≡ None
+pub waves_told : {X E : Type 0} (bytes : X → List ℕ) (j : Job) (made : Result X E) (result : Status)
+    (old new : Option (List ℕ)) (k l : ℕ) → j.script ≡ None
     → IfOk made (λ text. bytes text ≡ default_output j.deck)
-    → MatchResult made (λ text. Tells status.Ok (bytes text) result old new k l) (λ _. IsSilent status.Memory result old new) → Ends (Ok j) result old new k l
+    → MatchResult made (λ text. Tells status.Ok (bytes text) result old new k l)
+    (λ _. IsSilent status.Memory result old new) → Ends (Ok j) result old new k l
 waves_told bytes j (Ok text) result old new k l none is tells =
-    told (Ok j) status.Ok (bytes text) result old new k l (refl, subst (λ (s : Option (List (ℕ × Command))). MayPrint j.deck s (bytes text)) (sym none) is) tells
+    told (Ok j) status.Ok (bytes text) result old new k l
+    (refl, subst (λ (s : Option (List (ℕ × Command))). MayPrint j.deck s (bytes text)) (sym none) is) tells
 waves_told bytes j (Err e) result old new k l none is tells = silent (Ok j) result old new k l tells
 
 -- ---- a script
@@ -79,29 +95,44 @@ abbrev pub played : DeckValue → List (ℕ × Command) → Result Job Refusal
 played d lines = Ok (with_script d lines)
 
 -- its lines so far were played, and their text was written
-pub record IsPlayed (d : DeckValue) (lines : List (ℕ × Command)) (place : ℕ) (now : SessionValue) (old new : Option (List ℕ)) : Type 0 where
+pub record IsPlayed (d : DeckValue) (lines : List (ℕ × Command)) (place : ℕ) (now : SessionValue)
+    (old new : Option (List ℕ)) : Type 0 where
   pub done : List ℕ
   pub goes : GoesOn d lines place now done
   pub written : Appends old new done
 
-pub none_played : (d : DeckValue) (lines : List (ℕ × Command)) (s : SessionValue) (old : Option (List ℕ)) → s ≡ opened d → IsPlayed d lines 0 s old old
+pub none_played : (d : DeckValue) (lines : List (ℕ × Command)) (s : SessionValue) (old : Option (List ℕ))
+    → s ≡ opened d → IsPlayed d lines 0 s old old
 none_played d lines s old is = record { done = []; goes = begins d lines s is; written = appends_none old }
 
 -- its end
-pub ends_played : (d : DeckValue) (lines : List (ℕ × Command)) (place : ℕ) (now : SessionValue) (old new : Option (List ℕ)) (k l : ℕ)
+pub ends_played : (d : DeckValue) (lines : List (ℕ × Command)) (place : ℕ) (now : SessionValue)
+    (old new : Option (List ℕ)) (k l : ℕ)
     → IsPlayed d lines place now old new → length lines ≤ place → Ends (played d lines) status.Ok old new k l
-ends_played d lines place now old new k l h end = inl (h.done, (refl, all_played d lines place now h.done h.goes end), h.written)
+ends_played d lines place now old new k l h end = inl
+    (h.done, (refl, all_played d lines place now h.done h.goes end), h.written)
 
 -- memory was wanting at a line
-pub stops_wanting : (d : DeckValue) (lines : List (ℕ × Command)) (place : ℕ) (now : SessionValue) (old new : Option (List ℕ)) (k l : ℕ)
+pub stops_wanting : (d : DeckValue) (lines : List (ℕ × Command)) (place : ℕ) (now : SessionValue)
+    (old new : Option (List ℕ)) (k l : ℕ)
     → IsPlayed d lines place now old new → Ends (played d lines) status.Memory old new k l
 stops_wanting d lines place now old new k l h =
     let rest = front_played d lines place now h.done h.goes in
-    inr (inr (refl, (h.done ++ rest.0, (status.Ok, (refl, rest.1)), front_is old new (h.done ++ rest.0) h.done rest.0 h.written refl)))
+    inr (inr (
+      refl,
+      (
+        h.done ++ rest.0,
+        (status.Ok, (refl, rest.1)),
+        front_is old new (h.done ++ rest.0) h.done rest.0
+            h.written refl,
+      ),
+    ))
 
 -- a line was played, and all of its text was written
-pub plays_on : (d : DeckValue) (lines : List (ℕ × Command)) (place line : ℕ) (c : Command) (now next : SessionValue) (old mid new : Option (List ℕ)) (text : List ℕ)
-    → slice_get lines place ≡ Some (line, c) → IsPlayed d lines place now old mid → Plays now line c text next → Appends mid new text → IsPlayed d lines (place + 1) next old new
+pub plays_on : (d : DeckValue) (lines : List (ℕ × Command)) (place line : ℕ) (c : Command) (now next : SessionValue)
+    (old mid new : Option (List ℕ)) (text : List ℕ)
+    → slice_get lines place ≡ Some (line, c) → IsPlayed d lines place now old mid → Plays now line c text next
+    → Appends mid new text → IsPlayed d lines (place + 1) next old new
 plays_on d lines place line c now next old mid new text at h p appended = record {
   done = h.done ++ text;
   goes = goes_further d lines place line c now next h.done text at h.goes p;
@@ -116,28 +147,33 @@ cut done text more n =
     ∙ append_assoc (done ++ take n text) (drop n text) more
 
 -- a line was played, and the sink failed at its text
-pub stops_writing : (d : DeckValue) (lines : List (ℕ × Command)) (place line : ℕ) (c : Command) (now next : SessionValue) (old mid new : Option (List ℕ)) (text : List ℕ) (k m l : ℕ)
-    → slice_get lines place ≡ Some (line, c) → IsPlayed d lines place now old mid → Plays now line c text next → AppendsFront mid new text → k ≤ m → Rose m l
+pub stops_writing : (d : DeckValue) (lines : List (ℕ × Command)) (place line : ℕ) (c : Command)
+    (now next : SessionValue) (old mid new : Option (List ℕ)) (text : List ℕ) (k m l : ℕ)
+    → slice_get lines place ≡ Some (line, c) → IsPlayed d lines place now old mid → Plays now line c text next
+    → AppendsFront mid new text → k ≤ m → Rose m l
     → Ends (played d lines) status.Write old new k l
 stops_writing d lines place line c now next old mid new text k m l at h p front low rose =
     let further = goes_further d lines place line c now next h.done text at h.goes p in
     let rest = front_played d lines (place + 1) next (h.done ++ text) further in
     let n = front.0 in
-    let written : Appends old new (h.done ++ take n text) = appends_more old mid new h.done (take n text) h.written front.1 in
+    let written : Appends old new (h.done ++ take n text) =
+    appends_more old mid new h.done (take n text) h.written front.1 in
     inr (inl (
       refl,
       omega arith,
       (
         (h.done ++ text) ++ rest.0,
         (status.Ok, (refl, rest.1)),
-        front_is old new ((h.done ++ text) ++ rest.0) (h.done ++ take n text) (drop n text ++ rest.0) written (cut h.done text rest.0 n),
+        front_is old new ((h.done ++ text) ++ rest.0) (h.done ++ take n text) (drop n text ++ rest.0) written
+            (cut h.done text rest.0 n),
       ),
     ))
 
 -- ---- the clauses of the top call
 
 -- all that it says of how it ended
-pub record Clauses (b : List ℕ → Option (List ℕ)) (words : List (List ℕ)) (f g : List ℕ → ℕ) (old new : Option (List ℕ)) (k l : ℕ) (result : Status) : Type 0 where
+pub record Clauses (b : List ℕ → Option (List ℕ)) (words : List (List ℕ)) (f g : List ℕ → ℕ)
+    (old new : Option (List ℕ)) (k l : ℕ) (result : Status) : Type 0 where
   pub answered : IsFault result ⊎ IfSome (judged b words) (λ j. Says j result old new)
   pub words' : result ≡ status.Words → files words ≡ None
   pub script : result ≡ status.Script → script_name words ≡ None → ⊥
@@ -148,12 +184,14 @@ pub record Clauses (b : List ℕ → Option (List ℕ)) (words : List (List ℕ)
       → (result ≡ status.Memory) ⊎ IfSome (judged b words) (λ j. Says j result old new)
 
 -- a fact of one judgement is a fact of what is judged, where that is told
-known : (o : Option (Result Job Refusal)) (j : Result Job Refusal) (Q : Result Job Refusal → Type 0) → IfSome o (λ said. said ≡ j) → Q j → IfSome o Q
+known : (o : Option (Result Job Refusal)) (j : Result Job Refusal) (Q : Result Job Refusal → Type 0)
+    → IfSome o (λ said. said ≡ j) → Q j → IfSome o Q
 known None j Q h q = tt
 known (Some x) j Q h q = subst Q (sym h) q
 
 -- a fact of each judgement
-each : (o : Option (Result Job Refusal)) (Q : Result Job Refusal → Type 0) → ((j : Result Job Refusal) → Q j) → IfSome o Q
+each : (o : Option (Result Job Refusal)) (Q : Result Job Refusal → Type 0) → ((j : Result Job Refusal) → Q j)
+    → IfSome o Q
 each None Q h = tt
 each (Some j) Q h = h j
 
@@ -180,7 +218,8 @@ abbrev pub Fits : List (List ℕ) → Result Job Refusal → Type 0
 Fits words (Err r) = Concerns words r
 Fits words (Ok j) = Unit {0}
 
-no_words : (words : List (List ℕ)) (j : Result Job Refusal) (text : List ℕ) → Fits words j → MaySay j status.Words text → files words ≡ None
+no_words : (words : List (List ℕ)) (j : Result Job Refusal) (text : List ℕ) → Fits words j
+    → MaySay j status.Words text → files words ≡ None
 no_words words (Err refused.Words) text fits h = fits
 no_words words (Err refused.DeckTooLong) text fits h = absurd (cc)
 no_words words (Err (refused.Deck r)) text fits h = absurd (cc)
@@ -188,7 +227,8 @@ no_words words (Err refused.ScriptTooLong) text fits h = absurd (cc)
 no_words words (Err (refused.Script r)) text fits h = absurd (cc)
 no_words words (Ok j) text fits h = absurd (cc)
 
-no_script : (words : List (List ℕ)) (j : Result Job Refusal) (text : List ℕ) → Fits words j → MaySay j status.Script text → script_name words ≡ None → ⊥
+no_script : (words : List (List ℕ)) (j : Result Job Refusal) (text : List ℕ) → Fits words j
+    → MaySay j status.Script text → script_name words ≡ None → ⊥
 no_script words (Err refused.Words) text fits h = absurd (cc)
 no_script words (Err refused.DeckTooLong) text fits h = absurd (cc)
 no_script words (Err (refused.Deck r)) text fits h = absurd (cc)
@@ -197,11 +237,14 @@ no_script words (Err (refused.Script r)) text fits h = fits
 no_script words (Ok j) text fits h = absurd (cc)
 
 -- a judgement was answered
-judged_clauses : (b : List ℕ → Option (List ℕ)) (words : List (List ℕ)) (f g : List ℕ → ℕ) (old new : Option (List ℕ)) (k l : ℕ) (result : Status) (j : Result Job Refusal)
-    → IfSome (judged b words) (λ said. said ≡ j) → Fits words j → Ends j result old new k l → Clauses b words f g old new k l result
+judged_clauses : (b : List ℕ → Option (List ℕ)) (words : List (List ℕ)) (f g : List ℕ → ℕ) (old new : Option (List ℕ))
+    (k l : ℕ) (result : Status) (j : Result Job Refusal)
+    → IfSome (judged b words) (λ said. said ≡ j) → Fits words j → Ends j result old new k l
+    → Clauses b words f g old new k l result
 judged_clauses b words f g old new k l result j is fits ends = ⊎_elim
     (λ (given : Says j result old new).
-    let says : IfSome (judged b words) (λ x. Says x result old new) = known (judged b words) j (λ x. Says x result old new) is given in
+    let says : IfSome (judged b words) (λ x. Says x result old new) =
+    known (judged b words) j (λ x. Says x result old new) is given in
     let said : IsSaid result = may_be j result given.0 given.1 in
     record {
       answered = inr says;
@@ -209,7 +252,8 @@ judged_clauses b words f g old new k l result j is fits ends = ⊎_elim
       script = λ e. no_script words j given.0 fits (subst (λ (s : Status). MaySay j s given.0) e given.1);
       read = λ e. absurd (subst IsSaid e said);
       write = λ e. absurd (subst IsSaid e said);
-      front = λ h. absurd (⊎_elim (λ (e : result ≡ status.Write). subst IsSaid e said) (λ (e : result ≡ status.Memory). subst IsSaid e said) h);
+      front = λ h. absurd (⊎_elim (λ (e : result ≡ status.Write). subst IsSaid e said)
+          (λ (e : result ≡ status.Memory). subst IsSaid e said) h);
       complete = λ _ _ _. inr says;
     })
     (λ rest. ⊎_elim
@@ -237,10 +281,12 @@ judged_clauses b words f g old new k l result j is fits ends = ⊎_elim
     ends
 
 -- what the words gave was answered
-pub clauses : (b : List ℕ → Option (List ℕ)) (words : List (List ℕ)) (f g : List ℕ → ℕ) (old new : Option (List ℕ)) (k l : ℕ) (result : Status) (given : Result Job Stop)
+pub clauses : (b : List ℕ → Option (List ℕ)) (words : List (List ℕ)) (f g : List ℕ → ℕ) (old new : Option (List ℕ))
+    (k l : ℕ) (result : Status) (given : Result Job Stop)
     → JudgesWords b f g words given → Answers given result old new k l → Clauses b words f g old new k l result
 clauses b words f g old new k l result (Ok j) is ends = judged_clauses b words f g old new k l result (Ok j) is tt ends
-clauses b words f g old new k l result (Err (stop.Refused r)) is ends = judged_clauses b words f g old new k l result (Err r) is.0 is.1 ends
+clauses b words f g old new k l result (Err (stop.Refused r)) is ends =
+    judged_clauses b words f g old new k l result (Err r) is.0 is.1 ends
 clauses b words f g old new k l result (Err stop.Read) is ends = record {
   answered = inl (subst IsFault (sym ends.0) tt);
   words' = λ e. let clash : status.Read ≡ status.Words = sym ends.0 ∙ e in absurd (cc);
@@ -250,7 +296,8 @@ clauses b words f g old new k l result (Err stop.Read) is ends = record {
   front = λ h. absurd (⊎_elim
       (λ (e : result ≡ status.Write). let clash : status.Read ≡ status.Write = sym ends.0 ∙ e in cc)
       (λ (e : result ≡ status.Memory). let clash : status.Read ≡ status.Memory = sym ends.0 ∙ e in cc) h);
-  complete = λ deck script _. absurd (⊎_elim deck (λ (h : NameRose f g (script_name words) × IsValidWhereTold b (deck_name words)). script h.0) is);
+  complete = λ deck script _. absurd (⊎_elim deck (λ
+      (h : NameRose f g (script_name words) × IsValidWhereTold b (deck_name words)). script h.0) is);
 }
 clauses b words f g old new k l result (Err stop.Memory) is ends = record {
   answered = inl (subst IsFault (sym ends.0) tt);

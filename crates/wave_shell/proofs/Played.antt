@@ -25,15 +25,18 @@ both_true true false h = absurd (cc)
 both_true false b h = absurd (cc)
 
 edited : (s : SessionValue) (e : Edit) → IsInReach s
-    → (o : Option EditRefusal) → IsInReach (elim o as (λ _. SessionValue) [ None ↦ record s { edits = s.edits ++ e ∷ [] } | Some cause ↦ s ])
+    → (o : Option EditRefusal) → IsInReach (elim o as (λ _. SessionValue)
+    [ None ↦ record s { edits = s.edits ++ e ∷ [] } | Some cause ↦ s ])
 edited s e h None = omega (arith, length_push s.edits e)
 edited s e h (Some cause) = h
 
-moves_in_reach : (s : SessionValue) (k : ℕ) (c : Command) → IsInReach s → may_show s k c ≡ true → IsInReach (moved s k c)
+moves_in_reach : (s : SessionValue) (k : ℕ) (c : Command) → IsInReach s → may_show s k c ≡ true
+    → IsInReach (moved s k c)
 unfolding moved may_show
 moves_in_reach s k (command.Edit e) h may = edited s e h (edit_cause (after s.base s.edits) e)
 moves_in_reach s k command.Run h may = omega (arith, eqb-true k (length s.edits) may)
-moves_in_reach s k command.Look h may = leb-true k (length s.edits) (both_true (nat_le s.reached k) (nat_le k (length s.edits)) may).1
+moves_in_reach s k command.Look h may = leb-true k (length s.edits)
+    (both_true (nat_le s.reached k) (nat_le k (length s.edits)) may).1
 moves_in_reach s k (command.Show node range) h may = h
 moves_in_reach s k (command.Events range) h may = h
 moves_in_reach s k (command.Pin name) h may = h
@@ -42,7 +45,8 @@ moves_in_reach s k (command.Unpin name) h may = h
 moves_in_reach s k command.Work h may = h
 
 -- each line keeps it
-pub keeps_reach : (s next : SessionValue) (line : ℕ) (c : Command) (text : List ℕ) → IsInReach s → Plays s line c text next → IsInReach next
+pub keeps_reach : (s next : SessionValue) (line : ℕ) (c : Command) (text : List ℕ) → IsInReach s
+    → Plays s line c text next → IsInReach next
 keeps_reach s next line c text h p = subst IsInReach (sym p.next_is) (moves_in_reach s p.number c h p.may)
 
 -- ---- each script may print something
@@ -52,7 +56,11 @@ all_may : (s : SessionValue) (c : Command) → IsInReach s → may_show s (lengt
 unfolding may_show
 all_may s (command.Edit e) h = refl
 all_may s command.Run h = eq-eqb (length s.edits) (length s.edits) refl
-all_may s command.Look h = rw (le-leb s.reached (length s.edits) h, le-leb (length s.edits) (length s.edits) (omega arith)) refl
+all_may s command.Look h = rw (
+  le-leb s.reached (length s.edits) h,
+  le-leb (length s.edits) (length s.edits)
+      (omega arith),
+) refl
 all_may s (command.Show node range) h = refl
 all_may s (command.Events range) h = refl
 all_may s (command.Pin name) h = refl
@@ -65,35 +73,62 @@ prints_some [] s h = ([], refl)
 prints_some (l ∷ ls) s h =
     let k = length s.edits in
     let more = prints_some ls (moved s k l.1) (moves_in_reach s k l.1 h (all_may s l.1 h)) in
-    let first = says s k l.0 l.1 in
-    (first ++ more.0, (moved s k l.1, first, more.0, record { number = k; may = all_may s l.1 h; text_is = refl; next_is = refl }, more.1, refl))
+    let first = says s k l.0 l.1 in (
+      first ++ more.0,
+      (
+        moved s k l.1,
+        first,
+        more.0,
+        record
+            { number = k; may = all_may s l.1 h; text_is = refl; next_is = refl },
+        more.1,
+        refl,
+      ),
+    )
 
 -- ---- what was printed, and what the lines that are left print
 
 -- with each text that the lines from a place on may print, what was printed is one that all lines may print
-pub record GoesOn (d : DeckValue) (lines : List (ℕ × Command)) (place : ℕ) (now : SessionValue) (done : List ℕ) : Type 0 where
+pub record GoesOn (d : DeckValue) (lines : List (ℕ × Command)) (place : ℕ) (now : SessionValue) (done : List ℕ) : Type
+    0 where
   pub reach : IsInReach now
   pub goes : (more : List ℕ) → Prints now (drop place lines) more → IsOutput d lines (done ++ more)
 
 pub begins : (d : DeckValue) (lines : List (ℕ × Command)) (s : SessionValue) → s ≡ opened d → GoesOn d lines 0 s []
-begins d lines s is = record { reach = subst IsInReach (sym is) (omega arith); goes = λ more h. subst (λ (t : SessionValue). Prints t lines more) is h }
+begins d lines s is = record {
+  reach = subst IsInReach (sym is) (omega arith);
+  goes =
+      λ more h. subst (λ (t : SessionValue). Prints t lines more) is h;
+}
 
 -- the lines from a place on begin with the line there
-from_place : (lines : List (ℕ × Command)) (place : ℕ) (l : ℕ × Command) → slice_get lines place ≡ Some l → drop place lines ≡ l ∷ drop (place + 1) lines
-from_place lines place l at = rw (add-one, drop-cons lines place l (slice_get_within lines place l at), get_or_from_slice_get lines place l l at) refl
+from_place : (lines : List (ℕ × Command)) (place : ℕ) (l : ℕ × Command) → slice_get lines place ≡ Some l
+    → drop place lines ≡ l ∷ drop (place + 1) lines
+from_place lines place l at = rw (
+  add-one,
+  drop-cons lines place l (slice_get_within lines place l at),
+  get_or_from_slice_get lines place l l at,
+) refl
 
-pub goes_further : (d : DeckValue) (lines : List (ℕ × Command)) (place line : ℕ) (c : Command) (now next : SessionValue) (done text : List ℕ)
-    → slice_get lines place ≡ Some (line, c) → GoesOn d lines place now done → Plays now line c text next → GoesOn d lines (place + 1) next (done ++ text)
+pub goes_further : (d : DeckValue) (lines : List (ℕ × Command)) (place line : ℕ) (c : Command)
+    (now next : SessionValue) (done text : List ℕ)
+    → slice_get lines place ≡ Some (line, c) → GoesOn d lines place now done → Plays now line c text next
+    → GoesOn d lines (place + 1) next (done ++ text)
 goes_further d lines place line c now next done text at so_far p = record {
   reach = keeps_reach now next line c text so_far.reach p;
-  goes = λ more h. rw append_assoc (so_far.goes (text ++ more) (rw (from_place lines place (line, c) at) (next, text, more, p, h, refl)));
+  goes = λ more h. rw append_assoc (so_far.goes (text ++ more)
+      (rw (from_place lines place (line, c) at) (next, text, more, p, h, refl)));
 }
 
 -- after the last line it is one that all lines may print
-pub all_played : (d : DeckValue) (lines : List (ℕ × Command)) (place : ℕ) (now : SessionValue) (done : List ℕ) → GoesOn d lines place now done → length lines ≤ place → IsOutput d lines done
+pub all_played : (d : DeckValue) (lines : List (ℕ × Command)) (place : ℕ) (now : SessionValue) (done : List ℕ)
+    → GoesOn d lines place now done → length lines ≤ place → IsOutput d lines done
 all_played d lines place now done so_far end =
-    subst (λ (text : List ℕ). IsOutput d lines text) (append-nil done) (so_far.goes [] (subst (λ (ls : List (ℕ × Command)). Prints now ls []) (sym (drop_all place lines end)) refl))
+    subst (λ (text : List ℕ). IsOutput d lines text) (append-nil done)
+    (so_far.goes [] (subst (λ (ls : List (ℕ × Command)). Prints now ls []) (sym (drop_all place lines end)) refl))
 
 -- before that it is the front of one
-pub front_played : (d : DeckValue) (lines : List (ℕ × Command)) (place : ℕ) (now : SessionValue) (done : List ℕ) → GoesOn d lines place now done → (more : List ℕ) × IsOutput d lines (done ++ more)
-front_played d lines place now done so_far = let some = prints_some (drop place lines) now so_far.reach in (some.0, so_far.goes some.0 some.1)
+pub front_played : (d : DeckValue) (lines : List (ℕ × Command)) (place : ℕ) (now : SessionValue) (done : List ℕ)
+    → GoesOn d lines place now done → (more : List ℕ) × IsOutput d lines (done ++ more)
+front_played d lines place now done so_far = let some =
+    prints_some (drop place lines) now so_far.reach in (some.0, so_far.goes some.0 some.1)

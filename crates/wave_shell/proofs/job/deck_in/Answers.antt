@@ -12,5 +12,6 @@ returns-in-Ok-clause-judged c = deck_is c.args.bytes.now c.in-Ok.deck c.requires
 pub returns-in_default : goal.returns-in_default
 returns-in_default c = ⊎_elim
     (λ (wanting : c.in-Err.refusal ≡ at 0 Memory). absurd (c.in_default.not-Memory (ap (λ r. r.why) wanting)))
-    (λ (fault : deck_in c.args.bytes.now ≡ Err c.in-Err.refusal). record { judged = deck_refused c.args.bytes.now c.in-Err.refusal c.requires fault; kind = tt })
+    (λ (fault : deck_in c.args.bytes.now ≡ Err c.in-Err.refusal). record
+    { judged = deck_refused c.args.bytes.now c.in-Err.refusal c.requires fault; kind = tt })
     c.in-Err.ensures

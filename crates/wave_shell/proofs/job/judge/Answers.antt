@@ -13,7 +13,8 @@ use Rattle.wave_shell.proofs.job.judge.Goals as goal
 
 pub returns-in_default-clause-judged : goal.returns-in_default-clause-judged
 returns-in_default-clause-judged g c =
-    unfit (g.S.Shelf.bytes c.args.shelf.now) (g.S.Shelf.faults c.args.shelf.now) (g.S.Shelf.faults c.args.shelf.now) (map string_bytes c.args.words.now) (sym c.in_default.ensures)
+    unfit (g.S.Shelf.bytes c.args.shelf.now) (g.S.Shelf.faults c.args.shelf.now) (g.S.Shelf.faults c.args.shelf.now)
+    (map string_bytes c.args.words.now) (sym c.in_default.ensures)
 
 pub returns-in_err-deck-clause-judged : goal.returns-in_err-deck-clause-judged
 returns-in_err-deck-clause-judged g c =
@@ -24,7 +25,8 @@ returns-in_err-deck-clause-judged g c =
     let named : FilesValue = names_of c.in-Some.files in
     let at : files words ≡ Some named = sym c.in-Some.ensures in
     let ends = c.in_err-deck.ensures {u = tt} in
-    handed_on c.from_residual.result c.in_err-deck.field-0.0 (λ (r : Result Job Stop). JudgesWords b f last words r) c.from_residual.ensures.1
+    handed_on c.from_residual.result c.in_err-deck.field-0.0 (λ (r : Result Job Stop). JudgesWords b f last words r)
+    c.from_residual.ensures.1
     (deck_stops b f last words named c.in_err-deck.field-0.0 at ends.judged ends.kind)
 
 pub returns-in_default-script-clause-judged : goal.returns-in_default-script-clause-judged
@@ -34,7 +36,8 @@ returns-in_default-script-clause-judged g c =
     let named : FilesValue = names_of c.in-Some.files in
     let at : files words ≡ Some named = sym c.in-Some.ensures in
     deck_alone b (g.S.Shelf.faults c.args.shelf.now) (g.S.Shelf.faults c.read_deck.new.shelf) words named
-    c.in_ok-deck.deck at (ap (option_map (λ name. name.now)) c.in_default-script.is) (c.in_ok-deck.ensures {u = tt}).judged
+    c.in_ok-deck.deck at (ap (option_map (λ name. name.now)) c.in_default-script.is)
+    (c.in_ok-deck.ensures {u = tt}).judged
 
 pub returns-in_err-script-clause-judged : goal.returns-in_err-script-clause-judged
 returns-in_err-script-clause-judged g c =
@@ -46,10 +49,15 @@ returns-in_err-script-clause-judged g c =
     let name : List ℕ = c.in-Some-script.name.now in
     let at : files words ≡ Some named = sym c.in-Some.ensures in
     let ends = c.in_err-script.ensures {u = tt} in
-    handed_on c.from_residual-in_err-script.result c.in_err-script.field-0.0 (λ (r : Result Job Stop). JudgesWords b f last words r) c.from_residual-in_err-script.ensures.1
-    (script_stops b f last (g.S.Shelf.faults c.read_deck.new.shelf name) words named name c.in_ok-deck.deck c.in_err-script.field-0.0 at (ap (option_map (λ n. n.now)) c.in-Some-script.is) (c.in_ok-deck.ensures {u = tt}).judged
+    handed_on c.from_residual-in_err-script.result c.in_err-script.field-0.0
+    (λ (r : Result Job Stop). JudgesWords b f last words r) c.from_residual-in_err-script.ensures.1
+    (script_stops b f last (g.S.Shelf.faults c.read_deck.new.shelf name) words named name c.in_ok-deck.deck
+    c.in_err-script.field-0.0 at (ap (option_map (λ n. n.now)) c.in-Some-script.is)
+    (c.in_ok-deck.ensures {u = tt}).judged
     (c.read_deck.ensures.later name)
-    (subst (λ (o : Option (List ℕ)). JudgesFile {A = List (ℕ × Command)} judged_script o (g.S.Shelf.faults c.read_deck.new.shelf name) (last name) (Err c.in_err-script.field-0.0)) (c.read_deck.ensures.bytes name) ends.judged)
+    (subst (λ (o : Option (List ℕ)). JudgesFile {A = List (ℕ × Command)} judged_script o
+    (g.S.Shelf.faults c.read_deck.new.shelf name) (last name) (Err c.in_err-script.field-0.0))
+    (c.read_deck.ensures.bytes name) ends.judged)
     ends.kind)
 
 pub returns-clause-judged : goal.returns-clause-judged
@@ -59,6 +67,8 @@ returns-clause-judged g c =
     let named : FilesValue = names_of c.in-Some.files in
     let name : List ℕ = c.in-Some-script.name.now in
     let at : files words ≡ Some named = sym c.in-Some.ensures in
-    script_passes b (g.S.Shelf.faults c.args.shelf.now) (g.S.Shelf.faults c.read_lines.new.shelf) words named name c.in_ok-deck.deck c.in_ok-script.script at
+    script_passes b (g.S.Shelf.faults c.args.shelf.now) (g.S.Shelf.faults c.read_lines.new.shelf) words named name
+    c.in_ok-deck.deck c.in_ok-script.script at
     (ap (option_map (λ n. n.now)) c.in-Some-script.is) (c.in_ok-deck.ensures {u = tt}).judged
-    (subst (λ (o : Option (List ℕ)). IfSome o (λ text. judged_script text ≡ Ok c.in_ok-script.script)) (c.read_deck.ensures.bytes name) (c.in_ok-script.ensures {u = tt}).judged)
+    (subst (λ (o : Option (List ℕ)). IfSome o (λ text. judged_script text ≡ Ok c.in_ok-script.script))
+    (c.read_deck.ensures.bytes name) (c.in_ok-script.ensures {u = tt}).judged)

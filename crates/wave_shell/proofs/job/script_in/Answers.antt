@@ -13,5 +13,6 @@ returns-in-Ok-clause-judged c = script_is c.args.bytes.now c.in-Ok.script c.requ
 pub returns-in_default : goal.returns-in_default
 returns-in_default c = ⊎_elim
     (λ (wanting : c.in-Err.refusal ≡ at 0 Memory). absurd (c.in_default.not-Memory (ap (λ r. r.why) wanting)))
-    (λ (fault : script_in c.args.bytes.now ≡ Err c.in-Err.refusal). record { judged = script_refused c.args.bytes.now c.in-Err.refusal c.requires fault; kind = tt })
+    (λ (fault : script_in c.args.bytes.now ≡ Err c.in-Err.refusal). record
+    { judged = script_refused c.args.bytes.now c.in-Err.refusal c.requires fault; kind = tt })
     c.in-Err.ensures

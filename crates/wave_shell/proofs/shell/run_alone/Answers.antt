@@ -6,8 +6,10 @@ use Rattle.wave_shell.proofs.shell.run_alone.Goals as goal
 
 pub returns : goal.returns
 returns g c =
-    let r = clauses (g.S.Shelf.bytes c.args.shelf.now) (map string_bytes c.args.words.now) (g.S.Shelf.faults c.args.shelf.now) (g.S.Shelf.faults c.judge-given.new.shelf)
-    (g.K.Sink.written c.args.sink.now) (g.K.Sink.written c.answer.new.sink) (g.K.Sink.faults c.args.sink.now) (g.K.Sink.faults c.answer.new.sink)
+    let r = clauses (g.S.Shelf.bytes c.args.shelf.now) (map string_bytes c.args.words.now)
+    (g.S.Shelf.faults c.args.shelf.now) (g.S.Shelf.faults c.judge-given.new.shelf)
+    (g.K.Sink.written c.args.sink.now) (g.K.Sink.written c.answer.new.sink) (g.K.Sink.faults c.args.sink.now)
+    (g.K.Sink.faults c.answer.new.sink)
     c.answer.result c.judge-given.result c.judge-given.ensures.judged c.answer.ensures.answers in
     record {
       answered = r.answered;

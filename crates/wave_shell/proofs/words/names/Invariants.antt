@@ -5,4 +5,5 @@ use Rattle.wave_shell.proofs.words.names.Given as goal
 
 abbrev pub invariant-loop-place : goal.invariant-loop-place
 invariant-loop-place l = names_in (map string_bytes l.words)
-    ≡ option_map (λ names. map string_bytes (take l.place l.words) ++ names) (names_in (map string_bytes (drop l.place l.words)))
+    ≡ option_map (λ names. map string_bytes (take l.place l.words) ++ names)
+    (names_in (map string_bytes (drop l.place l.words)))
