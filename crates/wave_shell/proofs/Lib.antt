@@ -2,4 +2,5 @@ pub mod Names
 pub mod Judging
 pub mod Played
 pub mod Endings
+pub mod Clauses
 pub mod WaveTexts

@@ -60,9 +60,11 @@ Concerns words refused.ScriptTooLong = script_name words ≡ None → ⊥
 Concerns words (refused.Script r) = script_name words ≡ None → ⊥
 
 -- the job of the words, or why there is none
-abbrev pub JudgesWords : (List ℕ → Option (List ℕ)) → (List ℕ → ℕ) → (List ℕ → ℕ) → List (List ℕ) → Result Job Stop → Type 0
+abbrev pub JudgesWords : (List ℕ → Option (List ℕ)) → (List ℕ → ℕ) → (List ℕ → ℕ) → List (List ℕ)
+    → Result Job Stop → Type 0
 JudgesWords bytes before now words (Ok j) = IfSome (judged bytes words) (λ said. said ≡ Ok j)
-JudgesWords bytes before now words (Err (stop.Refused r)) = IfSome (judged bytes words) (λ said. said ≡ Err r) × Concerns words r
+JudgesWords bytes before now words (Err (stop.Refused r)) =
+    IfSome (judged bytes words) (λ said. said ≡ Err r) × Concerns words r
 JudgesWords bytes before now words (Err stop.Memory) = Unit {0}
 JudgesWords bytes before now words (Err stop.Read) = MayFailToRead bytes before now words
 

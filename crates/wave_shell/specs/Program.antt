@@ -59,8 +59,8 @@ judged_job bytes None d = Some (Ok (alone d))
 judged_job bytes (Some name) d =
     option_map (λ text. elim (judged_script text) [ Err r ↦ Err r | Ok lines ↦ Ok (with_script d lines) ]) (bytes name)
 
--- the job that the words and the bytes give, or the first refusal: of the words, of the deck, of the script; None where that
--- hangs on bytes that are not told
+-- the job that the words and the bytes give, or the first refusal: of the words, of the deck, of the script; None where
+-- that hangs on bytes that are not told
 unfoldable pub judged : (List ℕ → Option (List ℕ)) → List (List ℕ) → Option (Result Job Refusal)
 judged bytes words = elim (files words) [
   | None ↦ Some (Err refused.Words)
@@ -134,4 +134,5 @@ IsValidWhereTold bytes (Some name) = IfSome (bytes name) (λ text. (d : DeckValu
 -- why reading may fail: the count of the deck's name rose; or that of the script's did, and the deck is valid
 abbrev pub MayFailToRead : (List ℕ → Option (List ℕ)) → (List ℕ → ℕ) → (List ℕ → ℕ) → List (List ℕ) → Type 0
 MayFailToRead bytes before now words =
-    NameRose before now (deck_name words) ⊎ (NameRose before now (script_name words) × IsValidWhereTold bytes (deck_name words))
+    NameRose before now (deck_name words)
+    ⊎ (NameRose before now (script_name words) × IsValidWhereTold bytes (deck_name words))

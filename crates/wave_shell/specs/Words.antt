@@ -16,7 +16,10 @@ is_dashes w = bytes_eq w (codes "--")
 -- the names among the words: each word but the first `--`; None where a word before that is no name
 unfoldable pub names_in : List (List ℕ) → Option (List (List ℕ))
 names_in [] = Some []
-names_in (w ∷ ws) = if is_dashes w then Some ws else if is_name w then option_map (λ names. w ∷ names) (names_in ws) else None
+names_in (w ∷ ws) =
+    if is_dashes w then Some ws
+    else if is_name w then option_map (λ names. w ∷ names) (names_in ws)
+    else None
 
 -- the deck's name, and the script's where there is one
 pub record FilesValue : Type 0 where

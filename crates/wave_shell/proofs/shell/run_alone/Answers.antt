@@ -1,7 +1,7 @@
 -- What the words gave was answered.
 use Rattle.std.proofs.Common.{map}
 use Rattle.std.specs.Prelude.{string_bytes}
-use Rattle.wave_shell.proofs.Endings.{clauses}
+use Rattle.wave_shell.proofs.Clauses.{clauses}
 use Rattle.wave_shell.proofs.shell.run_alone.Goals as goal
 
 pub returns : goal.returns
