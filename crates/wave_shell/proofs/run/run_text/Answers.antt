@@ -1,6 +1,5 @@
 -- The names of a circuit that is the first of its names are the nodes of its deck.
-use Rattle.std.proofs.Common.{◌≡◌, ◌<◌, ◌+◌, ◌^◌, ℕ, List, [], length, refl, ap, ◌∙◌, arith}
-use Rattle.semantics.specs.Deck.{nodes}
+use Rattle.std.proofs.Common.{◌≡◌, ℕ, List, length, refl, ap, ◌∙◌, arith}
 use Rattle.semantics.proofs.Limits.{limits}
 use Rattle.circuit_model.proofs.Named.{with_nodes_none}
 use Rattle.wave_shell.proofs.run.run_text.Goals as goal

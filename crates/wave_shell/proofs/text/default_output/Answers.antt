@@ -1,12 +1,9 @@
 -- The wave of one node more.
-use Rattle.std.proofs.Common.{◌≡◌, ℕ, ◌+◌, ◌<◌, List, [], ◌++◌, length, get_or, take, Some, refl, sym, ◌∙◌, ap, arith}
-use Rattle.std.specs.Prelude.{slice_get}
-use Rattle.std.specs.List.{flat_map}
-use Rattle.std.proofs.lemmas.List.{get_or-map, length-map, take_more, flat_map_more}
-use Rattle.std.proofs.lemmas.Option.{slice_get-get_or}
+use Rattle.std.proofs.Common.{◌≡◌, ℕ, ◌<◌, List, [], length, get_or, refl, ◌∙◌, ap, arith}
+use Rattle.std.proofs.lemmas.List.{get_or-map, length-map}
 use Rattle.semantics.specs.declared.line.Line.{Line}
 use Rattle.semantics.specs.Deck.{DeckValue, nodes}
-use Rattle.semantics.specs.Text.{version_text, wave_text}
+use Rattle.semantics.specs.Text.{version_text}
 use Rattle.semantics.specs.Wave.{wave}
 use Rattle.wave_shell.proofs.WaveTexts.{at_place, more}
 use Rattle.wave_shell.proofs.text.default_output.Goals as goal

@@ -1,6 +1,5 @@
 -- The wave of one node more, from the record.
 use Rattle.std.proofs.Common.{◌≡◌, ◌<◌, ℕ, List, [], length, get_or, refl, sym, ap, ◌∙◌, arith}
-use Rattle.semantics.specs.declared.line.Line.{Line}
 use Rattle.semantics.specs.Deck.{DeckValue, nodes}
 use Rattle.semantics.specs.Text.{version_text}
 use Rattle.semantics.specs.Wave.{wave}
