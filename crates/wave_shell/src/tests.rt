@@ -222,7 +222,6 @@ fn writes_nothing_where_the_script_is_not_read(rt: HostRuntime) -> Result<(), Fa
     let (status, written) = run_on(&rt, alloc, &["b.sp", "b.edits"], missing, &[])?;
     assert_eq!(rt; written.len(), 0);
     assert_eq!(rt; status, Status::Read);
-    // The calls that give the script are the first two, and the third gives no byte more.
     for call in 0..3 {
         let shelf = shelf_of_two(
             alloc,
