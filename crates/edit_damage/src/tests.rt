@@ -1,6 +1,6 @@
 use crate::{damaged, damaged_by};
 use circuit_model::{Circuit, NodeNames};
-use deck_cards::{Deck, DeckParts, Edit, Element, Name, Title, Wave};
+use deck_cards::{Channel, Deck, DeckParts, Edit, Element, Name, Part, Title, Wave};
 use std::alloc::{AllocError, Global};
 use std::test::Fail;
 
@@ -187,5 +187,64 @@ fn a_source_that_comes_turns_and_goes(rt: HostRuntime) -> Result<(), Fail> {
     assert!(rt; are_near(alloc, &driven, &turned, &[0])?);
     let removed = Edit::Remove(name(alloc, "v1")?);
     assert!(rt; are_near(alloc, &driven, &removed, &[0, 1])?);
+    Ok(())
+}
+
+/// A device with its gate at a, its drain at b and its source at ground, which has one of two models; and a capacitor at
+/// each node.
+fn gate_deck(alloc: Global) -> Result<Option<Deck>, AllocError> {
+    let mut parts = Vec::new(alloc);
+    for model in ["slow", "fast"] {
+        let part = Part::Level {
+            channel: Channel::N,
+            vto: 500_000,
+            kp: 100_000_000,
+        };
+        parts.push((name(alloc, model)?, part))?;
+    }
+    let mut elements = Vec::new(alloc);
+    elements.push(capacitor(alloc, "c1", "a", 1_000)?)?;
+    elements.push(capacitor(alloc, "c2", "b", 1_000)?)?;
+    elements.push(Element::Mos {
+        name: name(alloc, "m1")?,
+        drain: name(alloc, "b")?,
+        gate: name(alloc, "a")?,
+        source: name(alloc, "0")?,
+        bulk: name(alloc, "0")?,
+        part: name(alloc, "slow")?,
+        length: 1_000_000,
+        width: 1_000_000,
+    })?;
+    let parts = DeckParts {
+        title: Title::of(Vec::new(alloc)),
+        stop: 1_000,
+        uic: true,
+        grain: 100_000,
+        parts,
+        initial: Vec::new(alloc),
+        elements,
+    };
+    Ok(Deck::of(alloc, parts).ok())
+}
+
+#[test]
+fn a_device_and_its_gate(rt: HostRuntime) -> Result<(), Fail> {
+    let alloc = rt.alloc();
+    let Some(old) = gate_deck(alloc)? else {
+        assert!(rt; false);
+        return Ok(());
+    };
+    let other = Edit::SetModel {
+        name: name(alloc, "m1")?,
+        part: name(alloc, "fast")?,
+    };
+    assert!(rt; are_near(alloc, &old, &other, &[0, 1])?);
+    let begun = Edit::SetIc {
+        node: name(alloc, "a")?,
+        volts: 5,
+    };
+    assert!(rt; are_near(alloc, &old, &begun, &[0, 1])?);
+    let removed = Edit::Remove(name(alloc, "m1")?);
+    assert!(rt; are_near(alloc, &old, &removed, &[0, 1])?);
     Ok(())
 }
