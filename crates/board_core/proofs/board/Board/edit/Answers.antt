@@ -15,4 +15,4 @@ invariant_of-self-2 c =
     let own = c.in_ok-own.ensures {u = tt} in
     let pushed : c.push.new.self ≡ es ++ e ∷ [] = c.in_ok-push.ensures.pushed ∙ ap (λ (x : Edit). es ++ x ∷ []) own in
     subst (λ (xs : List Edit). IsBoard base xs c.in_ok-deck.deck (arc_value c.self.inside.shown)) (sym pushed)
-        (board_more base es e d c.in_ok-deck.deck (arc_value c.self.inside.shown) c.self.invariant c.in_ok-deck.ensures.cause c.in_ok-deck.ensures.deck)
+    (board_more base es e d c.in_ok-deck.deck (arc_value c.self.inside.shown) c.self.invariant c.in_ok-deck.ensures.cause c.in_ok-deck.ensures.deck)
