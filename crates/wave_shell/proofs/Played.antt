@@ -11,6 +11,7 @@ use Rattle.deck_cards.specs.declared.edit_refusal.EditRefusal.{EditRefusal}
 use Rattle.deck_cards.specs.Edits.{after, edit_cause}
 use Rattle.wave_script.specs.declared.command.Command.{Command}
 use Rattle.wave_script.specs.declared.command.Command.TheVariants as command
+use Rattle.script_session.proofs.Printed.{rises}
 use Rattle.script_session.specs.Session.{SessionValue, opened, says, moved, may_show, Plays, Prints, IsOutput}
 
 -- ---- how far a script has come
@@ -19,35 +20,15 @@ use Rattle.script_session.specs.Session.{SessionValue, opened, says, moved, may_
 abbrev pub IsInReach : SessionValue → Type 0
 IsInReach s = s.reached ≤ length s.edits
 
-both_true : (a b : Bool) → (a && b) ≡ true → (a ≡ true) × (b ≡ true)
-both_true true true h = (refl, refl)
-both_true true false h = absurd (cc)
-both_true false b h = absurd (cc)
-
-edited : (s : SessionValue) (e : Edit) → IsInReach s
-    → (o : Option EditRefusal) → IsInReach (elim o as (λ _. SessionValue)
-    [ None ↦ record s { edits = s.edits ++ e ∷ [] } | Some cause ↦ s ])
-edited s e h None = omega (arith, length_push s.edits e)
-edited s e h (Some cause) = h
-
-moves_in_reach : (s : SessionValue) (k : ℕ) (c : Command) → IsInReach s → may_show s k c ≡ true
-    → IsInReach (moved s k c)
-unfolding moved may_show
-moves_in_reach s k (command.Edit e) h may = edited s e h (edit_cause (after s.base s.edits) e)
-moves_in_reach s k command.Run h may = omega (arith, eqb-true k (length s.edits) may)
-moves_in_reach s k command.Look h may = leb-true k (length s.edits)
-    (both_true (nat_le s.reached k) (nat_le k (length s.edits)) may).1
-moves_in_reach s k (command.Show node range) h may = h
-moves_in_reach s k (command.Events range) h may = h
-moves_in_reach s k (command.Pin name) h may = h
-moves_in_reach s k (command.UsePin name) h may = h
-moves_in_reach s k (command.Unpin name) h may = h
-moves_in_reach s k command.Work h may = h
-
 -- each line keeps it
 pub keeps_reach : (s next : SessionValue) (line : ℕ) (c : Command) (text : List ℕ) → IsInReach s
     → Plays s line c text next → IsInReach next
-keeps_reach s next line c text h p = subst IsInReach (sym p.next_is) (moves_in_reach s p.number c h p.may)
+keeps_reach s next line c text h p = (rises s line c text next h p).1
+
+moves_in_reach : (s : SessionValue) (k line : ℕ) (c : Command) → IsInReach s → may_show s k c ≡ true
+    → IsInReach (moved s k c)
+moves_in_reach s k line c h may = keeps_reach s (moved s k c) line c (says s k line c) h
+    (record { number = k; may = may; text_is = refl; next_is = refl })
 
 -- ---- each script may print something
 
@@ -72,7 +53,7 @@ pub prints_some : (lines : List (ℕ × Command)) (s : SessionValue) → IsInRea
 prints_some [] s h = ([], refl)
 prints_some (l ∷ ls) s h =
     let k = length s.edits in
-    let more = prints_some ls (moved s k l.1) (moves_in_reach s k l.1 h (all_may s l.1 h)) in
+    let more = prints_some ls (moved s k l.1) (moves_in_reach s k l.0 l.1 h (all_may s l.1 h)) in
     let first = says s k l.0 l.1 in (
       first ++ more.0,
       (

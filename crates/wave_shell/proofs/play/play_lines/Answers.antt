@@ -1,7 +1,7 @@
 -- Each line's text is written behind those before it.
 use Rattle.std.proofs.Common.{ℕ, List, subst, sym, arith}
 use Rattle.script_session.specs.Session.{Plays}
-use Rattle.wave_shell.proofs.Endings.{ends_played, plays_on, stops_wanting, stops_writing}
+use Rattle.wave_shell.proofs.Endings.{ends_played, none_played, plays_on, stops_wanting, stops_writing}
 use Rattle.wave_shell.proofs.play.play_lines.Goals as goal
 
 pub returns-in_default-clause-ends : goal.returns-in_default-clause-ends
@@ -22,6 +22,12 @@ returns-in_default-write_all-clause-ends g c =
     (subst (λ (text : List ℕ). Plays c.loop-place.session c.get-line.result.0 c.get-line.result.1.now text
     c.play.new.self) (sym c.as_bytes.ensures.value) (c.in-Ok.ensures {u = tt}))
     ends.front c.loop-place.invariant.later ends.cause.rose
+
+pub loop-place-init : goal.loop-place-init
+loop-place-init g c = record {
+  played = none_played c.args.session.base c.args.script.now c.args.session (g.K.Sink.written c.args.sink.now) c.requires;
+  later = omega arith;
+}
 
 pub loop-place-preserved : goal.loop-place-preserved
 loop-place-preserved g c = record {
