@@ -1,0 +1,4 @@
+pub mod Board
+pub mod Regions
+pub mod Windows
+pub mod Steps
