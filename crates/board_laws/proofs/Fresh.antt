@@ -20,13 +20,15 @@ run_bounded d valid n t free =
     let h : Held d n = free_held d l n free in
     record { den_low = h.some; den_high = h.most; num = charge_small d n t l h }
 
-run_sound : (d : DeckValue) (w : Record) (p : Pending) → is_valid d ≡ true → IsRunTo d w d.stop → NothingPending p → IsSound d (is_free d) w p
+run_sound : (d : DeckValue) (w : Record) (p : Pending) → is_valid d ≡ true → IsRunTo d w d.stop → NothingPending p
+    → IsSound d (is_free d) w p
 run_sound d w p valid is quiet = record {
   kept = λ n free. free;
   bounded = λ n t free up_to. subst (IsBoundedAt t) (sym (at n t free up_to)) (run_bounded d valid n t free);
   starts = λ n free. at n 0 free (omega arith) ∙ run_starts d n free;
   covers = record {
-    faults = λ n t fault. absurd (false≢true (sym (run_faultless d n t) ∙ (sym (alike d (is_free d) w (run_record d) (λ m free. free) at n t) ∙ fault)));
+    faults = λ n t fault.
+        absurd (false≢true (sym (run_faultless d n t) ∙ (sym (alike d (is_free d) w (run_record d) (λ m free. free) at n t) ∙ fault)));
     real = λ n t pending. absurd (false≢true (sym (quiet n t) ∙ pending));
   };
 }
@@ -43,7 +45,8 @@ fresh d b valid h = record {
     taken = λ i. accepts (h.base i) (h.edits i);
   };
   deck = h.deck ∙ sym (λ i. after (h.base i) (h.edits i));
-  repaired = moved_to d b.deck (is_free d) b.keeps b.past b.pending b.pending h.deck h.keeps (λ n t. refl) (run_sound d b.past b.pending valid h.past h.pending);
+  repaired = moved_to d b.deck (is_free d) b.keeps b.past b.pending b.pending h.deck h.keeps (λ n t. refl)
+      (run_sound d b.past b.pending valid h.past h.pending);
   owned = λ n t pending. absurd (false≢true (sym (h.pending n t) ∙ pending));
   shown = (b.edits, sym (ap (λ es. es ++ b.edits) h.shown));
   settled = λ quiet. h.shown ∙ sym h.edits;

@@ -29,7 +29,8 @@ stays_after b c same s = same.deck ∙ (s.deck ∙ sym (λ i. after (same.base i
 -- ---- the version that is shown
 
 -- its edits are the first of all
-pub shown_first : (b c : BoardValue) → ((more : List Edit) × (c.edits ≡ b.shown ++ more)) → Shows b c → (more : List Edit) × (c.edits ≡ c.shown ++ more)
+pub shown_first : (b c : BoardValue) → ((more : List Edit) × (c.edits ≡ b.shown ++ more)) → Shows b c
+    → (more : List Edit) × (c.edits ≡ c.shown ++ more)
 shown_first b c first (inl all) = ([], sym all.1 ∙ sym (append-nil c.shown))
 shown_first b c first (inr kept) = (first.0, first.1 ∙ ap (λ xs. xs ++ first.0) (sym kept.1))
 
@@ -42,10 +43,12 @@ shown_all b c (inr kept) settled = absurd (false≢true (sym (settled kept.0.0 k
 pub none_not_some : (r : ℕ) → Some r ≢ None
 none_not_some r same = none-some r (sym same)
 
-pub returned : (r : ℕ) (owner : Name → Option ℕ) (b c : BoardValue) → Returns r owner b c → (n : Name) (t : ℕ) → c.pending n t ≡ true → owner n ≢ None → c.owner n ≢ None
+pub returned : (r : ℕ) (owner : Name → Option ℕ) (b c : BoardValue) → Returns r owner b c → (n : Name) (t : ℕ)
+    → c.pending n t ≡ true → owner n ≢ None → c.owner n ≢ None
 returned r owner b c back n t pending owned = ⊎_elim
     (λ (idle : HasRegions owner c). λ none. owned (sym (idle n) ∙ none))
-    (λ (gone : IsQuiet r owner c × HasRegions (λ m. without r (owner m)) c). λ none. by (owner n) refl (sym (gone.1 n) ∙ none) gone.0)
+    (λ (gone : IsQuiet r owner c × HasRegions (λ m. without r (owner m)) c). λ none.
+    by (owner n) refl (sym (gone.1 n) ∙ none) gone.0)
     back.regions
   where
     by : (o : Option ℕ) → owner n ≡ o → without r o ≡ None → IsQuiet r owner c → ⊥
@@ -63,7 +66,8 @@ work_sound b c same s =
     moved_to b.deck c.deck b.keeps c.keeps c.past b.pending c.pending same.deck.deck same.deck.keeps same.pending
     (same_record b.deck b.keeps c.past b.past b.pending same.past s.repaired)
 
-pub work_stays : (b c : BoardValue) → SameWork b c → Sound b → ((n : Name) (t : ℕ) → c.pending n t ≡ true → c.owner n ≢ None) → Sound c
+pub work_stays : (b c : BoardValue) → SameWork b c → Sound b
+    → ((n : Name) (t : ℕ) → c.pending n t ≡ true → c.owner n ≢ None) → Sound c
 work_stays b c same s owned = record {
   accepted = stays_accepted b c same.deck s;
   deck = stays_after b c same.deck s;

@@ -15,11 +15,13 @@ use Rattle.board_laws.proofs.Stays.{none_not_some}
 
 -- ---- the swept nodes
 
-among_ends : (among : Name → Bool) (m : Name) (ns : List Name) → among m ≡ true → list_any (bytes_eq m) ns ≡ true → list_any among ns ≡ true
+among_ends : (among : Name → Bool) (m : Name) (ns : List Name) → among m ≡ true → list_any (bytes_eq m) ns ≡ true
+    → list_any among ns ≡ true
 among_ends among m [] is at = at
 among_ends among m (n ∷ ns) is at = by (bytes_eq m n) refl at (among_ends among m ns is)
   where
-    by : (x : Bool) → bytes_eq m n ≡ x → (x || list_any (bytes_eq m) ns) ≡ true → (list_any (bytes_eq m) ns ≡ true → list_any among ns ≡ true) → (among n || list_any among ns) ≡ true
+    by : (x : Bool) → bytes_eq m n ≡ x → (x || list_any (bytes_eq m) ns) ≡ true
+        → (list_any (bytes_eq m) ns ≡ true → list_any among ns ≡ true) → (among n || list_any among ns) ≡ true
     by true same here rest = or_left (among n) (list_any among ns) (ap among (sym (same-bytes_eq m n same)) ∙ is)
     by false same there rest = or_right (among n) (list_any among ns) (rest there)
 

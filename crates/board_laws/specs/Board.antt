@@ -1,4 +1,4 @@
--- A board: the edits that were accepted, a record that is being repaired in regions, and the version that is shown. What always holds of it.
+-- A board: accepted edits, a record that is repaired in regions, and the version that is shown. What always holds.
 use Rattle.std.specs.Prelude.{◌≡◌, ◌≢◌, ◌⊎◌, ℕ, ◌≤◌, Bool, true, List, [], ◌++◌, Option, None}
 use Rattle.semantics.specs.Deck.{Name, DeckValue}
 use Rattle.semantics.specs.Neighbours.{is_free}
@@ -8,8 +8,9 @@ use Rattle.deck_cards.specs.declared.edit.Edit.{Edit}
 use Rattle.deck_cards.specs.Edits.{after}
 use Rattle.edit_laws.specs.Accepted.{AreAccepted}
 
--- the deck of the beginning; the edits accepted since, and the deck after them; the nodes that the record keeps, and the record; the faults that are
--- still to be mended; the number of the region that has a node; which regions are lent; and the edits of the version that is shown
+-- the deck of the beginning; the edits accepted since, and the deck after them; the names that the record keeps, and the
+-- record; the nodes and ticks that are still to be looked at; the number of the region that has a node; which regions are
+-- lent; and the edits of the version that is shown
 pub record BoardValue : Type 0 where
   pub base : DeckValue
   pub edits : List Edit
@@ -23,11 +24,11 @@ pub record BoardValue : Type 0 where
 
 -- ---- the record and the version
 
--- nothing is still to be mended
+-- nothing is pending
 abbrev pub IsSettled : BoardValue → Type 0
 IsSettled b = NothingPending b.pending
 
--- something is still to be mended
+-- something is pending
 abbrev pub IsAtWork : BoardValue → Type 0
 IsAtWork b = (n : Name) × (t : ℕ) × (b.pending n t ≡ true)
 
@@ -39,7 +40,7 @@ IsRepaired b = IsRunTo b.deck b.past b.deck.stop
 abbrev pub ShowsAll : BoardValue → Type 0
 ShowsAll b = b.shown ≡ b.edits
 
--- two records have the same voltages up to the stop, of the nodes that are kept
+-- two records have the same voltages up to the stop, of the names that are kept
 abbrev pub SameRecord : DeckValue → (Name → Bool) → Record → Record → Type 0
 SameRecord d keeps v w = (n : Name) (t : ℕ) → keeps n ≡ true → t ≤ d.stop → v n t ≡ w n t
 
@@ -49,7 +50,7 @@ SameRecord d keeps v w = (n : Name) (t : ℕ) → keeps n ≡ true → t ≤ d.s
 abbrev pub Shows : BoardValue → BoardValue → Type 0
 Shows b c = (IsSettled c × ShowsAll c) ⊎ (IsAtWork c × (c.shown ≡ b.shown))
 
--- the deck and its edits stay, and the nodes that the record keeps
+-- the deck and its edits stay, and the names that the record keeps
 pub record SameDeck (b c : BoardValue) : Type 0 where
   pub base : c.base ≡ b.base
   pub edits : c.edits ≡ b.edits
@@ -65,8 +66,8 @@ pub record SameWork (b c : BoardValue) : Type 0 where
 
 -- ---- what always holds
 
--- the edits are accepted in turn and give the deck; its record is sound; a region has each pending node; and the version that is shown is of the first edits,
--- of all where nothing is pending
+-- the edits are accepted in turn and give the deck; the record and what is pending are sound; a region has each pending
+-- node; and the version that is shown is that of the first of the edits, of all where nothing is pending
 pub record Sound (b : BoardValue) : Type 0 where
   pub accepted : AreAccepted b.base b.edits
   pub deck : b.deck ≡ after b.base b.edits

@@ -39,14 +39,17 @@ abbrev pub IsChain : (Name → Name → Type 0) → (Name → Type 0) → Name �
 IsChain Link Among m [] n = Link m n
 IsChain Link Among m (k ∷ ks) n = Link m k × Among k × IsChain Link Among k ks n
 
--- what an edit does to regions: the lent ones stay as they are, and no region loses a node or is split (`together`); each pending node has a region (`owned`);
--- a node that comes into one is pending or near the edit (`new`); and a way of linked nodes within it leads from each of its nodes to each other (`chained`)
+-- what an edit does to regions: the lent ones stay as they are, and no region loses a node or is split (`together`); each
+-- pending node has a region (`owned`); a node that comes into one is pending or near the edit (`new`); and within a region
+-- a way of linked nodes leads from each node to each other (`chained`)
 pub record Regroups (b c : BoardValue) : Type 0 where
   pub out : SameOut b c
   pub lent : (n : Name) (r : ℕ) → b.is_out r ≡ true → is_in c r n ≡ is_in b r n
-  pub together : (m n : Name) (r : ℕ) → b.owner m ≡ Some r → b.owner n ≡ Some r → (c.owner m ≢ None) × (c.owner m ≡ c.owner n)
+  pub together : (m n : Name) (r : ℕ) → b.owner m ≡ Some r → b.owner n ≡ Some r
+      → (c.owner m ≢ None) × (c.owner m ≡ c.owner n)
   pub owned : (n : Name) (t : ℕ) → c.pending n t ≡ true → c.owner n ≢ None
-  pub new : (n : Name) (r : ℕ) → b.owner n ≡ None → c.owner n ≡ Some r → ((t : ℕ) × (c.pending n t ≡ true)) ⊎ IsNear b.deck c.deck n
+  pub new : (n : Name) (r : ℕ) → b.owner n ≡ None → c.owner n ≡ Some r
+      → ((t : ℕ) × (c.pending n t ≡ true)) ⊎ IsNear b.deck c.deck n
   pub chained : (m n : Name) (r : ℕ) → m ≢ n → c.owner m ≡ Some r → c.owner n ≡ Some r
       → (ks : List Name) × IsChain (IsLinked b c) (λ k. c.owner k ≡ Some r) m ks n
 

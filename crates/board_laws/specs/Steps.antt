@@ -12,7 +12,8 @@ use Rattle.board_laws.specs.Windows.{IsWindow, WindowValue, gathered, is_swept, 
 
 -- ---- edits
 
--- the deck accepts the edit: it is put behind the others, the free nodes of the deck that it gives begin anew, and all faults are pending
+-- the deck accepts the edit: it is put behind the others, the free nodes of the deck that it gives begin anew, and all
+-- faults are pending, besides what was
 pub record Edits (e : Edit) (b c : BoardValue) : Type 0 where
   pub rises : edit_rises e ≡ true
   pub accepted : edit_cause b.deck e ≡ None
@@ -32,13 +33,15 @@ pub record Refuses (e : Edit) (cause : EditRefusal) (b c : BoardValue) : Type 0 
 
 -- ---- a region is lent
 
--- of the nodes of idle regions this tick is the first that is pending, and this region the one of the least number with a node that is pending there
+-- of the nodes of idle regions this tick is the first that is pending, and of the regions with a node that is pending there
+-- this one has the least number
 pub record IsFirst (r : ℕ) (b : BoardValue) : Type 0 where
   pub tick : ℕ
   pub node : Name
   pub has : b.owner node ≡ Some r
   pub pending : b.pending node tick ≡ true
-  pub least : (n : Name) (t q : ℕ) → b.owner n ≡ Some q → b.is_out q ≡ false → b.pending n t ≡ true → (tick < t) ⊎ ((tick ≡ t) × (r ≤ q))
+  pub least : (n : Name) (t q : ℕ) → b.owner n ≡ Some q → b.is_out q ≡ false → b.pending n t ≡ true
+      → (tick < t) ⊎ ((tick ≡ t) × (r ≤ q))
 
 -- the idle region that is to be mended first is lent
 pub record Takes (r : ℕ) (b c : BoardValue) : Type 0 where
@@ -51,13 +54,15 @@ pub record Takes (r : ℕ) (b c : BoardValue) : Type 0 where
 
 -- ---- a region comes back
 
--- with a window: it is written into the record, the swept nodes have exactly their faults pending at its ticks, and the region gathers what it met
+-- with a window: its pieces are written into the record; of the swept nodes exactly the faults are pending at its ticks;
+-- and the region gathers the idle ones that it met
 pub record Commits (r : ℕ) (w : WindowValue) (b c : BoardValue) : Type 0 where
   pub lent : b.is_out r ≡ true
   pub window : IsWindow b.deck w
   pub deck : SameDeck b c
   pub past : SameRecord b.deck b.keeps c.past (written b r w)
-  pub pending : (n : Name) (t : ℕ) → c.pending n t ≡ after_commit b.deck c.past (is_swept b r w) w.from w.until b.pending n t
+  pub pending : (n : Name) (t : ℕ)
+      → c.pending n t ≡ after_commit b.deck c.past (is_swept b r w) w.from w.until b.pending n t
   pub regions : Returns r (gathered b c r w) b c
   pub shown : Shows b c
 
