@@ -9,12 +9,14 @@ use Rattle.semantics.specs.Pending.{IsBoundedAt, IsSound, NothingPending, Pendin
 use Rattle.semantics.specs.Record.{IsRunTo, Record, run_record}
 use Rattle.semantics.proofs.Limits.{Held, Limits, charge_small, limits}
 use Rattle.semantics.proofs.Free.{free_held}
+use Rattle.record_laws.specs.Laws.{SameFault}
 use Rattle.record_laws.proofs.Unique.{run_charged, run_faultless, run_starts}
 use Rattle.deck_cards.specs.Edits.{accepts, after, edit_rises}
 use Rattle.board_laws.specs.Board.{Begins, BoardValue, Sound}
 use Rattle.board_laws.proofs.Same.{alike, moved_to}
 
-run_bounded : (d : DeckValue) → is_valid d ≡ true → (n : Name) (t : ℕ) → is_free d n ≡ true → IsBoundedAt t (run_record d n t)
+run_bounded : (d : DeckValue) → is_valid d ≡ true → (n : Name) (t : ℕ) → is_free d n ≡ true
+    → IsBoundedAt t (run_record d n t)
 run_bounded d valid n t free =
     let l : Limits d = limits d valid in
     let h : Held d n = free_held d l n free in
@@ -28,13 +30,16 @@ run_sound d w p valid is quiet = record {
   starts = λ n free. at n 0 free (omega arith) ∙ run_starts d n free;
   covers = record {
     faults = λ n t fault.
-        absurd (false≢true (sym (run_faultless d n t) ∙ (sym (alike d (is_free d) w (run_record d) (λ m free. free) at n t) ∙ fault)));
+        absurd (false≢true (sym (run_faultless d n t) ∙ (sym (same n t) ∙ fault)));
     real = λ n t pending. absurd (false≢true (sym (quiet n t) ∙ pending));
   };
 }
   where
     at : (n : Name) (t : ℕ) → is_free d n ≡ true → t ≤ d.stop → w n t ≡ run_record d n t
     at n t free up_to = is n t free up_to ∙ run_charged d t n free
+
+    same : (n : Name) (t : ℕ) → SameFault d w (run_record d) n t
+    same n t = alike d (is_free d) w (run_record d) (λ m free. free) at n t
 
 pub fresh : (d : DeckValue) (b : BoardValue) → is_valid d ≡ true → Begins d b → Sound b
 unfolding accepts after

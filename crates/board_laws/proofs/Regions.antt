@@ -23,7 +23,8 @@ regroups b c one_b one_c out = record {
 
 pub swept : (b : BoardValue) (w : WindowValue) (n : Name) → OneRegion b → is_swept b 0 w n ≡ is_free b.deck n
 swept b w n one =
-    (λ i. is_free b.deck n && ((mine i || is_written b 0 w n) || is_beside b.deck (λ m. is_mine b 0 w m || is_written b 0 w m) n))
+    (λ i. is_free b.deck n
+    && ((mine i || is_written b 0 w n) || is_beside b.deck (λ m. is_mine b 0 w m || is_written b 0 w m) n))
     ∙ whole (is_free b.deck n)
   where
     mine : is_mine b 0 w n ≡ true

@@ -8,9 +8,9 @@ use Rattle.deck_cards.specs.declared.edit.Edit.{Edit}
 use Rattle.deck_cards.specs.Edits.{after}
 use Rattle.edit_laws.specs.Accepted.{AreAccepted}
 
--- the deck of the beginning; the edits accepted since, and the deck after them; the names that the record keeps, and the
--- record; the nodes and ticks that are still to be looked at; the number of the region that has a node; which regions are
--- lent; and the edits of the version that is shown
+-- the deck of the beginning; the edits accepted since, and the deck after them; the names that the record keeps, and
+-- the record; the nodes and ticks that are still to be looked at; the number of the region that has a node; which
+-- regions are lent; and the edits of the version that is shown
 pub record BoardValue : Type 0 where
   pub base : DeckValue
   pub edits : List Edit

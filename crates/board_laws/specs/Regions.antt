@@ -39,9 +39,9 @@ abbrev pub IsChain : (Name → Name → Type 0) → (Name → Type 0) → Name �
 IsChain Link Among m [] n = Link m n
 IsChain Link Among m (k ∷ ks) n = Link m k × Among k × IsChain Link Among k ks n
 
--- what an edit does to regions: the lent ones stay as they are, and no region loses a node or is split (`together`); each
--- pending node has a region (`owned`); a node that comes into one is pending or near the edit (`new`); and within a region
--- a way of linked nodes leads from each node to each other (`chained`)
+-- what an edit does to regions: the lent ones stay as they are, and nodes of one region are in one still (`together`);
+-- each pending node has a region (`owned`); a node that comes into one is pending or near the edit (`new`); and within
+-- a region a way of linked nodes leads from each node to each other (`chained`)
 pub record Regroups (b c : BoardValue) : Type 0 where
   pub out : SameOut b c
   pub lent : (n : Name) (r : ℕ) → b.is_out r ≡ true → is_in c r n ≡ is_in b r n

@@ -33,8 +33,8 @@ pub record Refuses (e : Edit) (cause : EditRefusal) (b c : BoardValue) : Type 0 
 
 -- ---- a region is lent
 
--- of the nodes of idle regions this tick is the first that is pending, and of the regions with a node that is pending there
--- this one has the least number
+-- of the nodes of idle regions this tick is the first that is pending, and of the regions with a node that is pending
+-- there this one has the least number
 pub record IsFirst (r : ℕ) (b : BoardValue) : Type 0 where
   pub tick : ℕ
   pub node : Name
@@ -54,8 +54,8 @@ pub record Takes (r : ℕ) (b c : BoardValue) : Type 0 where
 
 -- ---- a region comes back
 
--- with a window: its pieces are written into the record; of the swept nodes exactly the faults are pending at its ticks;
--- and the region gathers the idle ones that it met
+-- with a window: its pieces are written into the record; of the swept nodes exactly the faults are pending at its
+-- ticks; and the region gathers the idle ones that it met
 pub record Commits (r : ℕ) (w : WindowValue) (b c : BoardValue) : Type 0 where
   pub lent : b.is_out r ≡ true
   pub window : IsWindow b.deck w
