@@ -16,3 +16,4 @@ pub mod Turning
 pub mod Events
 pub mod FirstLines
 pub mod Promises
+pub mod Handed

@@ -24,7 +24,7 @@ use Rattle.window_run.specs.Net.{HasEventTicks, IsNet, IsRun, Net, charged, curr
 use Rattle.window_run.specs.Pieces.{AreTurning, IsPiece, OnlyFree, line_count, pairs, piece_of}
 use Rattle.window_run.specs.declared.task.Task.{Task}
 use Rattle.window_run.specs.Task.{AreFreeNodes, EachTurns, HasPieces, IsMended, IsNoWorse, IsTurn, after, circuit_of, deck_of, pairs_after}
-use Rattle.window_run.specs.Window.{WindowValue, piece_value, ramp_count, with_pieces}
+use Rattle.window_run.specs.Window.{AreDifferent, IsWindow, WindowValue, piece_value, ramp_count, with_pieces}
 use Rattle.window_run.proofs.Events.{events}
 use Rattle.window_run.proofs.Mended.{HaveDens, fault_named, faultless, free_inside, net_free, net_nodes, turn_there}
 use Rattle.window_run.proofs.Same.{SameFrom, current_same, run_same, ticks_same}
@@ -111,6 +111,9 @@ module _ (task : Task) (until : ℕ) (ps : List (List Line)) (found : Found task
     ends = subst (λ qs. All (λ (p : PieceValue). (p.from ≡ w.from) × (p.until ≡ w.until)) qs) (sym is) (All-map (λ (p : PieceValue). (p.from ≡ w.from) × (p.until ≡ w.until)) (piece_value task.from until ps) task.nodes.items (λ k d h. (sym from, sym to)));
     shape = subst (λ qs. All (λ (p : PieceValue). whole.IsPiece p.from p.until p.lines) qs) (sym is) (All-map (λ (p : PieceValue). whole.IsPiece p.from p.until p.lines) (piece_value task.from until ps) task.nodes.items shapes);
   }
+
+  pub is_window : (w : WindowValue) → HasPieces task w → IsWindow w
+  is_window w has = record { ends = has.ends; different = subst AreDifferent (sym has.nodes) found.nodes.different; shape = has.shape }
 
   turn_at : (w : WindowValue) (i : ℕ) → kind_at c i ≡ Free → w.until ≡ until → w.pieces ≡ map (piece_value task.from until ps) task.nodes.items → (j : ℕ) → 0 < j → j < length (piece_of ps i) → IsTurn task w (piece_value task.from until ps i) (line_of (piece_of ps i) j).start
   turn_at w i free to is zero some h = absurd (omega (arith, some))

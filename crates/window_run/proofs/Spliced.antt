@@ -12,8 +12,7 @@ use Rattle.node_ramps.specs.declared.ramp.Ramp.{Ramp}
 use Rattle.histories.specs.Piece.{PieceValue}
 use Rattle.histories.specs.Track.{pair}
 use Rattle.window_run.specs.Pieces.{line_count, piece_of}
-use Rattle.window_run.specs.Task.{AreDifferent}
-use Rattle.window_run.specs.Window.{piece_value, ramp_count, tells, with_pieces}
+use Rattle.window_run.specs.Window.{AreDifferent, piece_value, ramp_count, tells, with_pieces}
 use Rattle.window_run.proofs.Lines.{contains_cons, nothing}
 use Rattle.window_run.proofs.Pieces.{set_map}
 

@@ -1,5 +1,5 @@
 -- What is asked of a task, and what a window promises of it.
-use Rattle.std.specs.Prelude.{◌≡◌, ℕ, ◌<◌, ◌≤◌, Bool, true, false, List, length, map, slice_index_or}
+use Rattle.std.specs.Prelude.{◌≡◌, ℕ, ◌<◌, ◌≤◌, Bool, true, false, List, length, map}
 use Rattle.std.specs.List.{All, Contains, list_any}
 use Rattle.std.specs.Arc.{arc_value}
 use Rattle.std.specs.Str.{bytes_eq}
@@ -14,7 +14,7 @@ use Rattle.histories.specs.Piece.{IsPiece, PieceValue}
 use Rattle.histories.specs.Record.{pair_at}
 use Rattle.histories.specs.Track.{line_of}
 use Rattle.window_run.specs.declared.task.Task.{Task}
-use Rattle.window_run.specs.Window.{WindowValue, with_pieces}
+use Rattle.window_run.specs.Window.{AreDifferent, WindowValue, with_pieces}
 
 abbrev pub circuit_of : Task → CircuitValue
 circuit_of task = arc_value task.circuit
@@ -27,10 +27,6 @@ abbrev pub is_task_node : Task → Name → Bool
 is_task_node task n = list_any (λ i. bytes_eq n (name_at (circuit_of task) i)) task.nodes.items
 
 -- ---- what is asked
-
--- no two are the same
-abbrev pub AreDifferent : List ℕ → Type 0
-AreDifferent xs = (j k : ℕ) → j < k → k < length xs → slice_index_or xs k 0 ≡ slice_index_or xs j 0 → ⊥
 
 -- the nodes are free and different, every free node is among them, and each has its capacitance as denominator at the first tick
 pub record AreFreeNodes (task : Task) : Type 0 where

@@ -3,8 +3,7 @@
 ghost use Rattle.std.specs.Prelude.{◌≡◌, ◌<◌, ℕ, length, map, All, IfOk};
 ghost use Rattle.histories.specs.Piece.{IsPiece};
 ghost use Rattle.window_run.specs.Pieces.{piece_of};
-ghost use Rattle.window_run.specs.Task.{AreDifferent};
-ghost use Rattle.window_run.specs.Window.{piece_value};
+ghost use Rattle.window_run.specs.Window.{AreDifferent, piece_value};
 
 use histories::{Piece, Ramp};
 use std::alloc::{AllocError, Global};

@@ -10,7 +10,7 @@ use Rattle.window_run.specs.Pieces.{piece_of}
 use Rattle.window_run.specs.declared.stop.Stop.{Stop}
 use Rattle.window_run.specs.declared.stop.Stop.TheVariants.{Budget, End}
 use Rattle.window_run.specs.Window.{WindowValue, piece_value}
-use Rattle.window_run.proofs.Promises.{all_counted, are_inside, each_turns, has_events, has_pieces, mended, no_worse, shapes}
+use Rattle.window_run.proofs.Promises.{all_counted, are_inside, each_turns, has_events, has_pieces, is_window, mended, no_worse, shapes}
 use Rattle.window_run.proofs.window_of.run_window.Goals as goal
 
 pub hand_out-requires-clause-inside : goal.hand_out-requires-clause-inside
@@ -25,6 +25,14 @@ hand_out-requires-clause-shape g c =
     let ps : List (List Line) = map (λ (v : Vec Ramp Global). v.items) c.in_ok-courses.courses.ramps.items in
     subst (λ (ns : List ℕ). All (λ i. IsPiece c.args.task.now.from c.in_ok-courses.courses.until (piece_of ps i)) ns) (sym c.deref.ensures.value)
     (shapes c.args.task.now c.in_ok-courses.courses.until ps c.in_ok-courses.ensures.found)
+
+pub invariant_of-result : goal.invariant_of-result
+invariant_of-result g c =
+    let ps : List (List Line) = map (λ (v : Vec Ramp Global). v.items) c.in_ok-courses.courses.ramps.items in
+    let w : WindowValue = record { from = c.args.task.now.from; until = c.in_ok-courses.courses.until; stop = c.stop_at.result; pieces = c.in_ok-pieces.pieces.items } in
+    let is : w.pieces ≡ map (piece_value c.args.task.now.from w.until ps) c.args.task.now.nodes.items = c.in_ok-pieces.ensures ∙ ap (map (piece_value c.args.task.now.from w.until ps)) c.deref.ensures.value in
+    let found : Found c.args.task.now w.until ps = c.in_ok-courses.ensures.found in
+    is_window c.args.task.now w.until ps found w (has_pieces c.args.task.now w.until ps found w refl refl is)
 
 pub returns-clause-mended : goal.returns-clause-mended
 returns-clause-mended g c =
