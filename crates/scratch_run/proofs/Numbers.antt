@@ -8,7 +8,7 @@ use Rattle.circuit_model.specs.declared.node_kind.NodeKind.TheVariants.{Free}
 use Rattle.circuit_model.specs.Numbers.{CircuitValue, kind_at}
 use Rattle.circuit_model.proofs.NodeKinds.{kind_inside}
 use Rattle.window_run.specs.Circuit.{is_free_kind}
-use Rattle.window_run.specs.Task.{AreDifferent}
+use Rattle.window_run.specs.Window.{AreDifferent}
 use Rattle.window_run.proofs.Flows.{back, front}
 use Rattle.window_run.proofs.Noted.{pushed, up_to_next, up_to_pushed}
 use Rattle.window_run.proofs.Sources.{free_kind}

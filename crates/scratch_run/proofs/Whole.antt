@@ -24,8 +24,8 @@ use Rattle.window_run.specs.Events.{HasEvents}
 use Rattle.window_run.specs.declared.stop.Stop.{Stop}
 use Rattle.window_run.specs.declared.stop.Stop.TheVariants.{Budget, End}
 use Rattle.window_run.specs.declared.task.Task.{Task}
-use Rattle.window_run.specs.Task.{AreDifferent, AreFreeNodes, EachTurns, HasPieces, IsMended, IsTurn, after, circuit_of, deck_of, pairs_after}
-use Rattle.window_run.specs.Window.{WindowValue, ramp_count, with_pieces}
+use Rattle.window_run.specs.Task.{AreFreeNodes, EachTurns, HasPieces, IsMended, IsTurn, after, circuit_of, deck_of, pairs_after}
+use Rattle.window_run.specs.Window.{AreDifferent, WindowValue, ramp_count, with_pieces}
 use Rattle.window_run.proofs.ByNames.{free_number, record_at}
 use Rattle.window_run.proofs.Mended.{fault_named, free_inside}
 use Rattle.scratch_run.specs.Splices.{HasPut, Takes}

@@ -58,7 +58,7 @@ splice_pieces-requires g c =
     let end : task.end ≡ (deck_of task).stop = c.stop-stop.ensures.stop ∙ ap (λ (x : CircuitValue). x.deck.stop) (c.deref-circuit.ensures ∙ sym whole) in
     let w : WindowValue = c.in_ok-window.window in
     let found = c.in_ok-window.ensures {u = tt} in
-    subst (All (Takes c.args.past)) (sym c.into_pieces.ensures) (takes task w numbers (recorded (circuit_of task) task.past stop first) found.pieces (let h = found.until.1 in omega (arith, h, end)))
+    subst (All (Takes c.args.past)) (sym c.into_pieces.ensures.pieces) (takes task w numbers (recorded (circuit_of task) task.past stop first) found.pieces (let h = found.until.1 in omega (arith, h, end)))
 
 pub returns-clause-run : goal.returns-clause-run
 returns-clause-run g c =
@@ -74,7 +74,7 @@ returns-clause-run g c =
     let numbered : IsNumbered (circuit_of task) = subst IsNumbered (c.deref-circuit.ensures ∙ sym whole) c.known.ensures in
     let to : w.until ≡ (deck_of task).stop = to_stop (deck_of task) (after task w) w.stop task.end w.until found.until.1 found.end.0 found.budget ∙ end in
     let run : IsRunTo (deck_of task) (after task w) (deck_of task).stop = is_run task w numbered nodes found.pieces found.mended first refl found.from to in
-    let put : HasPut task.past c.splice_pieces.new.past w.pieces = subst (HasPut task.past c.splice_pieces.new.past) c.into_pieces.ensures (c.in_ok-splice_pieces.ensures {u = tt}) in
+    let put : HasPut task.past c.splice_pieces.new.past w.pieces = subst (HasPut task.past c.splice_pieces.new.past) c.into_pieces.ensures.pieces (c.in_ok-splice_pieces.ensures {u = tt}) in
     subst (λ (x : CircuitValue). IsRunOf x c.splice_pieces.new.past) whole (run_put task w c.splice_pieces.new.past stop first put run)
 
 pub returns-clause-steps : goal.returns-clause-steps
