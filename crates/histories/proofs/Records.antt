@@ -3,9 +3,9 @@ use Rattle.std.proofs.Common.{◌≡◌, ◌≢◌, ℕ, zero, suc, ◌-◌, ◌
 use Rattle.std.specs.Prelude.{◌==◌, OnOk}
 use Rattle.std.specs.List.{FoldsTo}
 use Rattle.std.specs.Option.{is_some}
-use Rattle.std.proofs.lemmas.Bool.{cases_eq, eq-eqb, ne_eqb, false≢true}
+use Rattle.std.proofs.lemmas.Bool.{cases_eq, eq-eqb, ne_eqb, false≢true, lt-ltb, le-ltb}
 use Rattle.std.proofs.lemmas.Int.{ints}
-use Rattle.std.proofs.lemmas.List.{get_or_append_left, get_or-append_right, get_or_past, get_or-set_same, get_or-set_other, take_all}
+use Rattle.std.proofs.lemmas.List.{get_or_append_left, get_or-append_right, get_or_past, get_or-set_same, get_or-set_other, take_all, get_or-take}
 use Rattle.semantics.specs.declared.fraction.Fraction.{Fraction}
 use Rattle.semantics.specs.declared.line.Line.{Line}
 use Rattle.histories.specs.Track.{pair}
@@ -123,3 +123,21 @@ room old ys m h none n = rw (take_all m old h) (⊎_elim
 pub on_ok_two : {T E P Q R : Type 0} (r : Result T E) → (P → Q → R) → OnOk r P → OnOk r Q → OnOk r R
 on_ok_two (Ok x) f p q = f p q
 on_ok_two (Err e) f p q = tt
+
+-- ---- the nodes from a number on are forgotten
+
+past_count : (xs : List (Option (List Line))) (count n : ℕ) → count ≤ n → get_or (take count xs) n None ≡ None
+past_count [] zero n h = refl
+past_count [] (suc count) n h = refl
+past_count (x ∷ xs) zero n h = refl
+past_count (x ∷ xs) (suc count) zero h = absurd (omega (arith, h))
+past_count (x ∷ xs) (suc count) (suc n) h = past_count xs count n (omega (arith, h))
+
+pub kept_before : (old new : RecordValue) (count : ℕ) → new.tracks ≡ take count old.tracks → (n : ℕ) → keeps new n ≡ (ltb n count && keeps old n)
+kept_before old new count e n = ⊎_elim
+    (λ (h : count ≤ n). ap (λ xs. is_some (get_or xs n None)) e ∙ ap is_some (past_count old.tracks count n h) ∙ sym (ap (λ b. b && keeps old n) (le-ltb n count h)))
+    (λ (h : n < count). ap (λ xs. is_some (get_or xs n None)) e ∙ ap is_some (get_or-take count old.tracks n None h) ∙ sym (ap (λ b. b && keeps old n) (lt-ltb n count h)))
+    (le_or_lt count n)
+
+pub pair_before : (old new : RecordValue) (count : ℕ) → new.tracks ≡ take count old.tracks → (n t : ℕ) → n < count → pair_at new n t ≡ pair_at old n t
+pair_before old new count e n t h = pair_alike new old n t (ap (λ xs. get_or xs n None) e ∙ get_or-take count old.tracks n None h)

@@ -1,4 +1,4 @@
-ghost use Rattle.std.specs.Prelude.{◌≡◌, ◌≤◌, ◌<◌, ◌+◌, ◌*◌, ◌^◌, ℕ, IsTrue, IfOk, OnOk, OnErr, None, Some, false, length, slice_index_or, unsigned_abs};
+ghost use Rattle.std.specs.Prelude.{◌≡◌, ◌≤◌, ◌<◌, ◌+◌, ◌*◌, ◌^◌, ℕ, nat_lt, ◌&&◌, IsTrue, IfOk, OnOk, OnErr, None, Some, false, length, slice_index_or, unsigned_abs};
 ghost use Rattle.node_ramps.specs.Lines.{voltage};
 ghost use Rattle.histories.specs.Track.{IsBounded, IsTrack};
 ghost use Rattle.histories.specs.Pairs.{IsEnd, IsJoined, IsSmooth, line_at, wave_of};
@@ -70,6 +70,15 @@ impl Histories {
         reach(&mut self.tracks, place)?;
         self.tracks[place] = Some(track);
         Ok(())
+    }
+
+    /// Forgets the nodes from this number on.
+    pub fn truncate(&mut self, count: u32)
+        ensures stop { self.new.stop ≡ self.old.stop }
+        ensures kept { (n : ℕ) → keeps self.new n ≡ (nat_lt n count && keeps self.old n) }
+        ensures pairs { (n t : ℕ) → n < count → pair_at self.new n t ≡ pair_at self.old n t }
+    {
+        self.tracks.truncate(count as usize);
     }
 
     /// Whether the node is kept.
