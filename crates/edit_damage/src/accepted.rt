@@ -9,7 +9,7 @@ use semantics::{Element, Wave};
 
 /// That a deck accepts an edit that it has nothing against: the deck is valid, and a source that the edit brings has
 /// rising times.
-pub(crate) fn know_accepted(deck: &Deck, edit: &Edit)
+pub fn know_accepted(deck: &Deck, edit: &Edit)
     ensures { edit_cause deck.now edit.now ≡ None → IsAccepted deck.now edit.now }
 {
     deck.stop();

@@ -8,6 +8,7 @@ mod found;
 mod marks;
 mod same;
 
+pub use accepted::know_accepted;
 pub use by_edit::damaged_by;
 pub use damage::damaged;
 

@@ -1,4 +1,3 @@
 pub mod Counted
-pub mod Numbers
 pub mod Put
 pub mod Whole

@@ -19,7 +19,7 @@ use Rattle.circuit_model.proofs.NodeKinds.{kind_free, kind_here}
 use Rattle.record_laws.proofs.Stale.{turn_begins}
 use Rattle.record_laws.proofs.Unique.{unique}
 use Rattle.record_waves.specs.RunRecord.{IsRunOf}
-use Rattle.window_run.specs.Circuit.{IsNumbered}
+use Rattle.window_run.specs.Circuit.{IsNumbered, free_numbers}
 use Rattle.window_run.specs.Events.{HasEvents}
 use Rattle.window_run.specs.declared.stop.Stop.{Stop}
 use Rattle.window_run.specs.declared.stop.Stop.TheVariants.{Budget, End}
@@ -30,9 +30,9 @@ use Rattle.window_run.proofs.ByNames.{free_number, record_at}
 use Rattle.window_run.proofs.Mended.{fault_named, free_inside}
 use Rattle.scratch_run.specs.Splices.{HasPut, Takes}
 use Rattle.scratch_run.specs.Starts.{HasFirst}
-use Rattle.scratch_run.specs.Waves.{free_numbers, wave_lines}
+use Rattle.scratch_run.specs.Waves.{wave_lines}
 use Rattle.scratch_run.proofs.Counted.{BeginEach, all_few, in_wave}
-use Rattle.scratch_run.proofs.Numbers.{numbers_all, numbers_different, numbers_free}
+use Rattle.window_run.proofs.FreeNumbers.{numbers_all, numbers_different, numbers_free}
 use Rattle.scratch_run.proofs.Put.{as_before}
 
 -- ---- the beginning

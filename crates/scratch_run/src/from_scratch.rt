@@ -6,14 +6,14 @@ ghost use Rattle.scratch_run.specs.Starts.{HasFirst};
 ghost use Rattle.scratch_run.specs.Waves.{wave_lines};
 
 use crate::splices::splice_pieces;
-use crate::starts::{free_nodes, started};
+use crate::starts::started;
 use circuit_model::Circuit;
 use histories::Histories;
 use node_ramps::Steps;
 use std::alloc::{AllocError, Global};
 use std::sync::Arc;
 use std::sync::ledger::Ledger;
-use window_run::{Task, run_window};
+use window_run::{Task, free_nodes, run_window};
 
 /// The run of a whole circuit up to the stop of its deck: a record of each free node's voltage at each tick. It goes from
 /// event to event, so ticks at which no device changes cost nothing. It counts at most as many ramps as the waves of the

@@ -17,3 +17,4 @@ pub mod Events
 pub mod FirstLines
 pub mod Promises
 pub mod Handed
+pub mod FreeNumbers

@@ -1,5 +1,6 @@
 -- A circuit as the run of a window sees it.
-use Rattle.std.specs.Prelude.{◌≡◌, ℕ, Bool, true, false, ◌-◌, List, [], length}
+use Rattle.std.specs.Prelude.{◌≡◌, ℕ, Bool, true, false, ◌-◌, List, [], filter, length}
+use Rattle.std.specs.List.{range_with_len}
 use Rattle.std.specs.Option.{unwrap_or}
 use Rattle.semantics.specs.Device.{current_in}
 use Rattle.semantics.specs.Valid.{is_valid}
@@ -20,6 +21,10 @@ abbrev pub is_driven_kind : NodeKind → Bool
 is_driven_kind Driven = true
 is_driven_kind Free = false
 is_driven_kind Absent = false
+
+-- the numbers of the free nodes, rising
+unfoldable pub free_numbers : CircuitValue → List ℕ
+free_numbers c = filter (λ i. is_free_kind (kind_at c i)) (range_with_len 0 (length c.names))
 
 -- a circuit whose deck is valid, and whose numbers can be relied on
 pub record IsNumbered (c : CircuitValue) : Type 0 where

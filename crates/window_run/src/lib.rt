@@ -5,6 +5,7 @@ mod bend;
 mod courses;
 mod device;
 mod flow;
+mod free;
 mod hand_out;
 mod intake;
 mod look;
@@ -18,6 +19,7 @@ mod window;
 mod window_of;
 mod wiring;
 
+pub use free::free_nodes;
 pub use stop::Stop;
 pub use task::Task;
 pub use window::Window;

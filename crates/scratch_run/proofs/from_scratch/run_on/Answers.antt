@@ -6,13 +6,13 @@ use Rattle.histories.specs.Record.{RecordValue}
 use Rattle.circuit_model.specs.Numbers.{CircuitValue}
 use Rattle.record_waves.specs.RunRecord.{IsRunOf}
 use Rattle.semantics.specs.Record.{IsRunTo}
-use Rattle.window_run.specs.Circuit.{IsNumbered}
 use Rattle.window_run.specs.declared.task.Task.{Task}
 use Rattle.window_run.specs.Task.{AreFreeNodes, after, circuit_of, deck_of}
 use Rattle.window_run.specs.Window.{WindowValue}
 use Rattle.scratch_run.specs.Splices.{HasPut, Takes}
 use Rattle.scratch_run.specs.Starts.{HasFirst}
-use Rattle.scratch_run.specs.Waves.{free_numbers, wave_lines}
+use Rattle.scratch_run.specs.Waves.{wave_lines}
+use Rattle.window_run.specs.Circuit.{IsNumbered, free_numbers}
 use Rattle.scratch_run.proofs.Whole.{is_run, ramps_few, recorded, run_put, takes, to_stop, whole_nodes}
 use Rattle.scratch_run.proofs.from_scratch.run_on.Goals as goal
 
@@ -20,7 +20,7 @@ pub run_window-requires-clause-order : goal.run_window-requires-clause-order
 run_window-requires-clause-order g c =
     let task : Task = record { circuit = c.in_ok-own.own; past = c.args.past; nodes = c.in_ok-nodes.nodes; from = 0; end = c.stop-stop.result; budget = c.stop-stop.result + 1 } in
     let whole : circuit_of task ≡ arc_value c.args.shared.now = c.in_ok-own.ensures {u = tt} in
-    let numbers : task.nodes.items ≡ free_numbers (circuit_of task) = c.in_ok-nodes.ensures {u = tt} ∙ ap free_numbers (c.deref-circuit.ensures ∙ sym whole) in
+    let numbers : task.nodes.items ≡ free_numbers (circuit_of task) = c.in_ok-nodes.ensures.nodes ∙ ap free_numbers (c.deref-circuit.ensures ∙ sym whole) in
     let first : HasFirst (circuit_of task) task.past (length (circuit_of task).names) = subst (λ (x : CircuitValue). HasFirst x c.args.past (length x.names)) (sym whole) c.requires.first in
     let stop : task.past.stop ≡ (deck_of task).stop = c.requires.stop ∙ ap (λ (x : CircuitValue). x.deck.stop) (sym whole) in
     let end : task.end ≡ (deck_of task).stop = c.stop-stop.ensures.stop ∙ ap (λ (x : CircuitValue). x.deck.stop) (c.deref-circuit.ensures ∙ sym whole) in
@@ -32,7 +32,7 @@ pub run_window-requires-clause-record : goal.run_window-requires-clause-record
 run_window-requires-clause-record g c =
     let task : Task = record { circuit = c.in_ok-own.own; past = c.args.past; nodes = c.in_ok-nodes.nodes; from = 0; end = c.stop-stop.result; budget = c.stop-stop.result + 1 } in
     let whole : circuit_of task ≡ arc_value c.args.shared.now = c.in_ok-own.ensures {u = tt} in
-    let numbers : task.nodes.items ≡ free_numbers (circuit_of task) = c.in_ok-nodes.ensures {u = tt} ∙ ap free_numbers (c.deref-circuit.ensures ∙ sym whole) in
+    let numbers : task.nodes.items ≡ free_numbers (circuit_of task) = c.in_ok-nodes.ensures.nodes ∙ ap free_numbers (c.deref-circuit.ensures ∙ sym whole) in
     let first : HasFirst (circuit_of task) task.past (length (circuit_of task).names) = subst (λ (x : CircuitValue). HasFirst x c.args.past (length x.names)) (sym whole) c.requires.first in
     let stop : task.past.stop ≡ (deck_of task).stop = c.requires.stop ∙ ap (λ (x : CircuitValue). x.deck.stop) (sym whole) in
     let end : task.end ≡ (deck_of task).stop = c.stop-stop.ensures.stop ∙ ap (λ (x : CircuitValue). x.deck.stop) (c.deref-circuit.ensures ∙ sym whole) in
@@ -42,7 +42,7 @@ pub run_window-requires-clause-nodes : goal.run_window-requires-clause-nodes
 run_window-requires-clause-nodes g c =
     let task : Task = record { circuit = c.in_ok-own.own; past = c.args.past; nodes = c.in_ok-nodes.nodes; from = 0; end = c.stop-stop.result; budget = c.stop-stop.result + 1 } in
     let whole : circuit_of task ≡ arc_value c.args.shared.now = c.in_ok-own.ensures {u = tt} in
-    let numbers : task.nodes.items ≡ free_numbers (circuit_of task) = c.in_ok-nodes.ensures {u = tt} ∙ ap free_numbers (c.deref-circuit.ensures ∙ sym whole) in
+    let numbers : task.nodes.items ≡ free_numbers (circuit_of task) = c.in_ok-nodes.ensures.nodes ∙ ap free_numbers (c.deref-circuit.ensures ∙ sym whole) in
     let first : HasFirst (circuit_of task) task.past (length (circuit_of task).names) = subst (λ (x : CircuitValue). HasFirst x c.args.past (length x.names)) (sym whole) c.requires.first in
     let stop : task.past.stop ≡ (deck_of task).stop = c.requires.stop ∙ ap (λ (x : CircuitValue). x.deck.stop) (sym whole) in
     let end : task.end ≡ (deck_of task).stop = c.stop-stop.ensures.stop ∙ ap (λ (x : CircuitValue). x.deck.stop) (c.deref-circuit.ensures ∙ sym whole) in
@@ -52,7 +52,7 @@ pub splice_pieces-requires : goal.splice_pieces-requires
 splice_pieces-requires g c =
     let task : Task = record { circuit = c.in_ok-own.own; past = c.args.past; nodes = c.in_ok-nodes.nodes; from = 0; end = c.stop-stop.result; budget = c.stop-stop.result + 1 } in
     let whole : circuit_of task ≡ arc_value c.args.shared.now = c.in_ok-own.ensures {u = tt} in
-    let numbers : task.nodes.items ≡ free_numbers (circuit_of task) = c.in_ok-nodes.ensures {u = tt} ∙ ap free_numbers (c.deref-circuit.ensures ∙ sym whole) in
+    let numbers : task.nodes.items ≡ free_numbers (circuit_of task) = c.in_ok-nodes.ensures.nodes ∙ ap free_numbers (c.deref-circuit.ensures ∙ sym whole) in
     let first : HasFirst (circuit_of task) task.past (length (circuit_of task).names) = subst (λ (x : CircuitValue). HasFirst x c.args.past (length x.names)) (sym whole) c.requires.first in
     let stop : task.past.stop ≡ (deck_of task).stop = c.requires.stop ∙ ap (λ (x : CircuitValue). x.deck.stop) (sym whole) in
     let end : task.end ≡ (deck_of task).stop = c.stop-stop.ensures.stop ∙ ap (λ (x : CircuitValue). x.deck.stop) (c.deref-circuit.ensures ∙ sym whole) in
@@ -64,7 +64,7 @@ pub returns-clause-run : goal.returns-clause-run
 returns-clause-run g c =
     let task : Task = record { circuit = c.in_ok-own.own; past = c.args.past; nodes = c.in_ok-nodes.nodes; from = 0; end = c.stop-stop.result; budget = c.stop-stop.result + 1 } in
     let whole : circuit_of task ≡ arc_value c.args.shared.now = c.in_ok-own.ensures {u = tt} in
-    let numbers : task.nodes.items ≡ free_numbers (circuit_of task) = c.in_ok-nodes.ensures {u = tt} ∙ ap free_numbers (c.deref-circuit.ensures ∙ sym whole) in
+    let numbers : task.nodes.items ≡ free_numbers (circuit_of task) = c.in_ok-nodes.ensures.nodes ∙ ap free_numbers (c.deref-circuit.ensures ∙ sym whole) in
     let first : HasFirst (circuit_of task) task.past (length (circuit_of task).names) = subst (λ (x : CircuitValue). HasFirst x c.args.past (length x.names)) (sym whole) c.requires.first in
     let stop : task.past.stop ≡ (deck_of task).stop = c.requires.stop ∙ ap (λ (x : CircuitValue). x.deck.stop) (sym whole) in
     let end : task.end ≡ (deck_of task).stop = c.stop-stop.ensures.stop ∙ ap (λ (x : CircuitValue). x.deck.stop) (c.deref-circuit.ensures ∙ sym whole) in
@@ -81,7 +81,7 @@ pub returns-clause-steps : goal.returns-clause-steps
 returns-clause-steps g c =
     let task : Task = record { circuit = c.in_ok-own.own; past = c.args.past; nodes = c.in_ok-nodes.nodes; from = 0; end = c.stop-stop.result; budget = c.stop-stop.result + 1 } in
     let whole : circuit_of task ≡ arc_value c.args.shared.now = c.in_ok-own.ensures {u = tt} in
-    let numbers : task.nodes.items ≡ free_numbers (circuit_of task) = c.in_ok-nodes.ensures {u = tt} ∙ ap free_numbers (c.deref-circuit.ensures ∙ sym whole) in
+    let numbers : task.nodes.items ≡ free_numbers (circuit_of task) = c.in_ok-nodes.ensures.nodes ∙ ap free_numbers (c.deref-circuit.ensures ∙ sym whole) in
     let first : HasFirst (circuit_of task) task.past (length (circuit_of task).names) = subst (λ (x : CircuitValue). HasFirst x c.args.past (length x.names)) (sym whole) c.requires.first in
     let stop : task.past.stop ≡ (deck_of task).stop = c.requires.stop ∙ ap (λ (x : CircuitValue). x.deck.stop) (sym whole) in
     let end : task.end ≡ (deck_of task).stop = c.stop-stop.ensures.stop ∙ ap (λ (x : CircuitValue). x.deck.stop) (c.deref-circuit.ensures ∙ sym whole) in

@@ -1,19 +1,19 @@
 -- The numbers of the free nodes, one after another.
 use Rattle.std.proofs.Common.{◌≡◌, ◌≢◌, ℕ, zero, suc, ◌+◌, ◌<◌, ◌≤◌, Bool, true, false, cond, List, [], ◌∷◌, ◌++◌, length, get_or, refl, sym, ap, ◌∙◌, arith, ⊎_elim, subst}
 use Rattle.std.specs.Prelude.{filter}
-use Rattle.std.specs.List.{Contains, range_with_len}
+use Rattle.std.specs.List.{All, Contains, range_with_len}
+use Rattle.std.proofs.lemmas.List.Elements.{Contains-get_or}
 use Rattle.std.proofs.lemmas.Bool.{false≢true}
 use Rattle.std.proofs.lemmas.List.{length-append}
 use Rattle.circuit_model.specs.declared.node_kind.NodeKind.TheVariants.{Free}
 use Rattle.circuit_model.specs.Numbers.{CircuitValue, kind_at}
 use Rattle.circuit_model.proofs.NodeKinds.{kind_inside}
-use Rattle.window_run.specs.Circuit.{is_free_kind}
+use Rattle.window_run.specs.Circuit.{free_numbers, is_free_kind}
 use Rattle.window_run.specs.Window.{AreDifferent}
 use Rattle.window_run.proofs.Flows.{back, front}
 use Rattle.window_run.proofs.Noted.{pushed, up_to_next, up_to_pushed}
 use Rattle.window_run.proofs.Sources.{free_kind}
 use Rattle.window_run.proofs.Waiting.{split}
-use Rattle.scratch_run.specs.Waves.{free_numbers}
 
 filter_more : (p : ℕ → Bool) (xs : List ℕ) (x : ℕ) → filter p (xs ++ x ∷ []) ≡ filter p xs ++ filter p (x ∷ [])
 filter_more p [] x = refl
@@ -120,3 +120,6 @@ numbers_different c = (are c (length c.names)).different
 pub numbers_all : (c : CircuitValue) (i : ℕ) → kind_at c i ≡ Free → Contains (free_numbers c) i
 unfolding free_numbers
 numbers_all c i free = (are c (length c.names)).all i (kind_inside c i (λ absent. cc)) free
+
+pub each_free : (c : CircuitValue) → All (λ i. kind_at c i ≡ Free) (free_numbers c)
+each_free c = λ k d h. numbers_free c (get_or (free_numbers c) k d) (Contains-get_or (free_numbers c) k d h)
