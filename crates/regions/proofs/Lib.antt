@@ -1,3 +1,4 @@
 pub mod Ticks
 pub mod Parts
 pub mod Changes
+pub mod Joins

@@ -1,5 +1,5 @@
 -- A set of ticks as spans one after another.
-use Rattle.std.specs.Prelude.{◌≡◌, ℕ, ◌-◌, ◌<◌, ◌≤◌, min, max, nat_le, nat_lt, Bool, true, false, ◌&&◌, if◌then◌else◌, List, [], ◌∷◌, length, slice_index_or, Option, Some, None}
+use Rattle.std.specs.Prelude.{◌≡◌, ℕ, ◌-◌, ◌<◌, ◌≤◌, min, max, nat_le, nat_lt, Bool, true, false, ◌&&◌, ◌||◌, if◌then◌else◌, List, [], ◌∷◌, length, slice_index_or, Option, Some, None}
 use Rattle.std.specs.List.{All, list_any}
 use Rattle.regions.specs.declared.span.Span.{Span}
 
@@ -46,3 +46,23 @@ IsJoined spans first last from until s =
     (s.from ≡ min from (span_of spans first).from)
     × (s.until ≡ max until (span_of spans (last - 1)).until))
     × (last ≤ first → (s.from ≡ from) × (s.until ≡ until))
+
+-- each begins at the tick or before
+abbrev pub BeginBy : ℕ → List Span → Type 0
+BeginBy tick spans = All (λ s. s.from ≤ tick) spans
+
+-- these spans have the ticks of the old ones and of one more, and none begins later than that one
+pub record IsWith (span : Span) (old new : List Span) : Type 0 where
+  pub spans : IsSpans new
+  pub order : BeginBy span.from new
+  pub ticks : (t : ℕ) → has new t ≡ (has old t || within span.from span.until t)
+
+-- a span is at this place, and the one at this place of the other begins no earlier, where there is one
+pub record IsNext (one : List Span) (place : ℕ) (other : List Span) (other_place : ℕ) : Type 0 where
+  pub inside : place < length one
+  pub first : other_place < length other → (span_of one place).from ≤ (span_of other other_place).from
+
+-- these spans have the ticks of both sets
+pub record IsBoth (one other both : List Span) : Type 0 where
+  pub spans : IsSpans both
+  pub ticks : (t : ℕ) → has both t ≡ (has one t || has other t)

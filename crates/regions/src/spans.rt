@@ -1,5 +1,5 @@
-ghost use Rattle.std.specs.Prelude.{◌≡◌, ◌<◌, ◌≤◌, ◌||◌, ◌&&◌, not, false, ℕ, ◌++◌, length, take, drop, IfOk, OnOk, OnErr};
-ghost use Rattle.regions.specs.Spans.{IsJoined, IsLeastFrom, has, some_span, span_of, within};
+ghost use Rattle.std.specs.Prelude.{◌≡◌, ◌<◌, ◌≤◌, ◌||◌, ◌&&◌, ◌⊎◌, not, true, false, ℕ, ◌++◌, length, take, drop, IfOk, OnOk, OnErr};
+ghost use Rattle.regions.specs.Spans.{BeginBy, IsBoth, IsJoined, IsLeastFrom, IsNext, IsSpans, IsWith, has, some_span, span_of, within};
 
 use crate::span::Span;
 use std::alloc::{AllocError, Global};
@@ -105,6 +105,15 @@ impl Spans {
         replace(&mut self.spans, first, last, with)
     }
 
+    /// Adds the ticks of another set. It goes through both once.
+    pub fn join(&mut self, other: &Spans) -> Result<(), AllocError>
+        ensures ok { OnOk result ((t : ℕ) → has self.new t ≡ (has self.old t || has other.now t)) }
+        ensures err { OnErr result (self.new ≡ self.old) }
+    {
+        self.spans = merged(self.alloc, &self.spans, &other.spans)?;
+        Ok(())
+    }
+
     /// The place of the first span that does not end before a tick.
     fn first_near(&self, tick: u64) -> usize
         ensures count { result ≤ length self.now }
@@ -190,4 +199,53 @@ fn replace(
     spans.reserve(with.len())?;
     spans.truncate(first);
     spans.append(&mut with)
+}
+
+/// The spans of two sets as those of one.
+fn merged(alloc: Global, one: &[Span], other: &[Span]) -> Result<Vec<Span>, AllocError>
+    requires one { IsSpans one.now }
+    requires other { IsSpans other.now }
+    ensures { IfOk result (λ both. IsBoth one.now other.now both.items) }
+{
+    let mut both = Vec::new(alloc);
+    let mut place = 0;
+    let mut other_place = 0;
+    while place < one.len() || other_place < other.len() {
+        if is_next(one, place, other, other_place) {
+            push_joined(&mut both, one[place])?;
+            place += 1;
+        } else {
+            push_joined(&mut both, other[other_place])?;
+            other_place += 1;
+        }
+    }
+    Ok(both)
+}
+
+/// Whether the span at a place of the first comes before the one at a place of the other. One of the two is there.
+fn is_next(one: &[Span], place: usize, other: &[Span], other_place: usize) -> bool
+    requires by { place ≤ length one.now }
+    requires other_by { other_place ≤ length other.now }
+    requires some { (place < length one.now) ⊎ (other_place < length other.now) }
+    ensures one { result ≡ true → IsNext one.now place other.now other_place }
+    ensures other { result ≡ false → IsNext other.now other_place one.now place }
+{
+    other_place == other.len() || place < one.len() && one[place].from <= other[other_place].from
+}
+
+/// Adds the ticks of a span that begins before none of these. The last span takes it in where they touch.
+fn push_joined(spans: &mut Vec<Span>, span: Span) -> Result<(), AllocError>
+    requires spans { IsSpans spans.old.items }
+    requires some { span.from < span.until }
+    requires order { BeginBy span.from spans.old.items }
+    ensures { OnOk result (IsWith span spans.old.items spans.new.items) }
+{
+    let count = spans.len();
+    if count > 0 && span.from <= spans[count - 1].until {
+        let until = spans[count - 1].until.max(span.until);
+        spans[count - 1].until = until;
+    } else {
+        spans.push(span)?;
+    }
+    Ok(())
 }

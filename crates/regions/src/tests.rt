@@ -15,6 +15,17 @@ fn changed(alloc: Global) -> Result<Spans, AllocError> {
     Ok(spans)
 }
 
+// Those, and spans that touch one, that overlap one and touch the next, and that lie apart.
+fn joined(alloc: Global) -> Result<Spans, AllocError> {
+    let mut other = Spans::new(alloc);
+    other.add(2, 4)?;
+    other.add(13, 16)?;
+    other.add(30, 31)?;
+    let mut spans = changed(alloc)?;
+    spans.join(&other)?;
+    Ok(spans)
+}
+
 #[test]
 fn ticks(rt: HostRuntime) -> Result<(), Fail> {
     let spans = changed(rt.alloc())?.copy()?;
@@ -26,6 +37,14 @@ fn ticks(rt: HostRuntime) -> Result<(), Fail> {
         has,
         [
             true, false, false, true, true, false, false, true, true, false
+        ]
+    );
+    let all = joined(rt.alloc())?;
+    let has = [1, 3, 4, 10, 11, 14, 24, 25, 30, 31].map(|tick| all.has(tick));
+    assert_eq!(rt;
+        has,
+        [
+            true, true, false, false, true, true, true, false, true, false
         ]
     );
     assert_eq!(rt; Spans::new(rt.alloc()).least(), None);
